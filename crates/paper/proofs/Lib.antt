@@ -1,0 +1,2 @@
+-- What is true of the definitions alone.
+pub mod Cases
