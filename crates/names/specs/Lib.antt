@@ -1,0 +1,2 @@
+-- How two words stand for a set of names.
+pub mod Words

@@ -1,0 +1,117 @@
+// Sets of names, 128 of them in two words by value.
+use paper::NameNo;
+use paper::Subject;
+ghost use mathlib.Core.Path.{_≡_};
+ghost use Prim.Native.Nat.{_<_, _≤_};
+ghost use Rattle.paper.specs.Sets.{none, only, _∪_, _∖_, below as below-count, outside, all-below, members};
+ghost use Rattle.names.specs.Words.{bit, mem, first};
+
+// Bit k of lo is name k, bit k of hi is name 64 + k.
+pub struct Names {
+    pub lo: u64,
+    pub hi: u64,
+}
+
+pub fn empty() -> Names
+    ensures { λ r. ⌜ mem r ≡ none ⌝ }
+{
+    Names { lo: 0, hi: 0 }
+}
+
+pub fn single(n: NameNo) -> Names
+    requires { ⌜ n .0 < 128 ⌝ }
+    ensures { λ r. ⌜ mem r ≡ only (n .0) ⌝ }
+{
+    let k = n.0;
+    if k < 64 {
+        Names {
+            lo: 1u64 << k,
+            hi: 0,
+        }
+    } else {
+        Names {
+            lo: 0,
+            hi: 1u64 << (k - 64),
+        }
+    }
+}
+
+pub fn union(a: Names, b: Names) -> Names
+    ensures { λ r. ⌜ mem r ≡ mem a ∪ mem b ⌝ }
+{
+    Names {
+        lo: a.lo | b.lo,
+        hi: a.hi | b.hi,
+    }
+}
+
+pub fn minus(a: Names, b: Names) -> Names
+    ensures { λ r. ⌜ mem r ≡ mem a ∖ mem b ⌝ }
+{
+    Names {
+        lo: a.lo ^ (a.lo & b.lo),
+        hi: a.hi ^ (a.hi & b.hi),
+    }
+}
+
+pub fn member(s: Names, n: NameNo) -> bool
+    ensures { λ r. ⌜ r ≡ mem s (n .0) ⌝ }
+{
+    let k = n.0;
+    if k < 64 {
+        return (s.lo >> k) & 1 == 1;
+    }
+    if k < 128 {
+        return (s.hi >> (k - 64)) & 1 == 1;
+    }
+    false
+}
+
+// The first `count` bits of a word, all of them from 64 on.
+fn low_bits(count: u8) -> u64
+    requires { ⌜ count ≤ 64 ⌝ }
+    ensures { λ r. ⌜ bit r ≡ below-count count ⌝ }
+{
+    if count < 64 {
+        (1u64 << count) - 1
+    } else {
+        0xFFFF_FFFF_FFFF_FFFF
+    }
+}
+
+// All names below a count.
+pub fn below(count: u8) -> Names
+    requires { ⌜ count ≤ 128 ⌝ }
+    ensures { λ r. ⌜ mem r ≡ below-count count ⌝ }
+{
+    if count < 64 {
+        return Names {
+            lo: low_bits(count),
+            hi: 0,
+        };
+    }
+    Names {
+        lo: low_bits(64),
+        hi: low_bits(count - 64),
+    }
+}
+
+pub fn is_empty(s: Names) -> bool
+    ensures { λ r. ⌜ r ≡ all-below 128 (outside (mem s)) ⌝ }
+{
+    (s.lo == 0) & (s.hi == 0)
+}
+
+// The least name of a set, if it has one.
+pub fn least(s: Names) -> Subject
+    ensures { λ r. ⌜ r ≡ first (members (mem s) 128) ⌝ }
+{
+    let mut k: u8 = 0;
+    while k < 128 {
+        if member(s, NameNo(k)) {
+            return Subject::Name(NameNo(k));
+        }
+        k = k + 1;
+    }
+    Subject::NoName
+}
