@@ -1,0 +1,10 @@
+//! A plain reader of the records of document 01, and the answers of the Rust to what it reads.
+
+pub mod answers;
+mod reader;
+mod record;
+pub mod tree;
+
+pub use reader::{read, Refusal};
+pub use record::{NameNumber, Node, NodeNumber, Record, Slot};
+pub use tree::condition;

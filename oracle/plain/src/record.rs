@@ -1,0 +1,129 @@
+/// A record that was accepted. Every node refers only to nodes before it; the last is the root.
+#[derive(Debug, Clone, PartialEq, Eq)]
+pub struct Record {
+    pub names: Vec<String>,
+    pub nodes: Vec<Node>,
+}
+
+#[derive(Debug, Clone, Copy, PartialEq, Eq)]
+pub struct NameNumber(pub u8);
+
+#[derive(Debug, Clone, Copy, PartialEq, Eq)]
+pub struct NodeNumber(pub u16);
+
+#[derive(Debug, Clone, Copy, PartialEq, Eq)]
+pub enum Slot {
+    Name(NameNumber),
+    Parameter(u8),
+    Binder(u8),
+}
+
+/// Document 01's table of kinds, its fields in its order.
+#[derive(Debug, Clone, Copy, PartialEq, Eq)]
+pub enum Node {
+    And {
+        left: NodeNumber,
+        right: NodeNumber,
+    },
+    Or {
+        left: NodeNumber,
+        right: NodeNumber,
+    },
+    Not {
+        inner: NodeNumber,
+    },
+    Formerly {
+        body: NodeNumber,
+        window: u16,
+    },
+    Previous {
+        body: NodeNumber,
+        window: u16,
+    },
+    Since {
+        left: NodeNumber,
+        right: NodeNumber,
+        window: u16,
+    },
+    Exists {
+        slot: Slot,
+        type_byte: u8,
+        body: NodeNumber,
+    },
+    Comparison {
+        op: u8,
+        left: NodeNumber,
+        right: NodeNumber,
+    },
+    Predicate {
+        action: u16,
+        arguments: NodeNumber,
+    },
+    Refine {
+        base: NodeNumber,
+        arguments: NodeNumber,
+    },
+    Tp {
+        slot: Slot,
+    },
+    Call {
+        symbol: u16,
+    },
+    SigilRef {
+        symbol: u16,
+    },
+    Var {
+        name: NameNumber,
+    },
+    Wildcard,
+    Literal {
+        symbol: u16,
+    },
+    ScopeField {
+        symbol: u16,
+    },
+    ContextField {
+        symbol: u16,
+    },
+    ParamRef {
+        number: u8,
+    },
+    BinderRef {
+        number: u8,
+    },
+    Array {
+        items: NodeNumber,
+    },
+    Arith {
+        op: u8,
+        left: NodeNumber,
+        right: NodeNumber,
+    },
+    Sum {
+        summed: Slot,
+        binders: NodeNumber,
+        body: NodeNumber,
+    },
+    Count {
+        binders: NodeNumber,
+        body: NodeNumber,
+    },
+    AggregateCall {
+        symbol: u16,
+    },
+    ListEnd,
+    ArgumentCell {
+        field: u16,
+        term: NodeNumber,
+        rest: NodeNumber,
+    },
+    ItemCell {
+        term: NodeNumber,
+        rest: NodeNumber,
+    },
+    BinderCell {
+        slot: Slot,
+        type_byte: u8,
+        rest: NodeNumber,
+    },
+}
