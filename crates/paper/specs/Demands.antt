@@ -2,15 +2,18 @@
 use Prim.Native.Nat.{ℕ}
 use mathlib.Core.Bool.{Bool, true, false, _||_}
 use mathlib.Core.List.{List, [], _∷_}
+use mathlib.Core.Path.{_≡_}
 use Rattle.paper.specs.declared.NodeNo.{NodeNo}
+use Rattle.paper.specs.declared.Finding.{Finding}
 use Rattle.paper.specs.declared.Tied.{Tied}
 use Rattle.paper.specs.declared.Tied.the-variants.{Left, Right, Neither}
 use Rattle.paper.specs.Record.{pick}
-use Rattle.paper.specs.Sets.{Set, _∪_, _∖_}
-use Rattle.paper.specs.Tree.{Condition, Term}
+use Rattle.paper.specs.Sets.{Set, none, _∪_, _∖_}
+use Rattle.paper.specs.TurnedAway.{Contents}
+use Rattle.paper.specs.Tree.{Condition, Term, root-no, root}
 use Rattle.paper.specs.Tree.Condition.{And, Or, Not, Past, Since, Exists, Comparison, Predicate, Refine, Tp, Opaque}
 use Rattle.paper.specs.Tree.Term.{Var, Wildcard, Value, Sigil, Array, Arith, Sum, Count, AggregateCall}
-use Rattle.paper.specs.FreeAndRestricted.{named, binder-names, free, term-free, tied, restricted}
+use Rattle.paper.specs.FreeAndRestricted.{named, binder-names, free, term-free, tied, restricted, holds-sigil}
 use Rattle.paper.specs.Places.{
   Spot,
   condition,
@@ -23,13 +26,24 @@ use Rattle.paper.specs.Places.{
   unasked-at,
   Broken,
   for-names,
+  Breaks,
+  Entry,
+  Unmet,
+  findings,
+  found,
 }
 
 -- ---- closedness
 
 -- "28: each free name, ascending, at the root"
-unfoldable pub closedness-broken : NodeNo → Condition → Broken
-closedness-broken n c = for-names 28 n (free c)
+unfoldable pub closedness-broken : Contents → Broken
+closedness-broken c = for-names 28 (root-no c) (free (root c))
+
+abbrev pub ClosednessUnmet : Contents → List ℕ → Entry → Type 0
+ClosednessUnmet c path e = (path ≡ []) × Breaks (closedness-broken c) e
+
+unfoldable pub closedness-part : Contents → List Finding
+closedness-part c = findings (closedness-broken c)
 
 -- ---- demands: the path rule
 
@@ -101,6 +115,15 @@ spot-broken (searched-items l) ties = []
 
 unfoldable pub demand-broken : Place → List Broken
 demand-broken p = pick (p .asked) (spot-broken (p .spot) (p .names)) []
+
+-- ---- demands: what is unmet, and this part of the list
+
+-- "If the whole condition holds a sigil, no demand is asked. Otherwise the tied names .. none at the root"
+abbrev pub DemandUnmet : Contents → List ℕ → Entry → Type 0
+DemandUnmet c path e = (holds-sigil (root c) ≡ false) × Unmet demand-below demand-broken (asked-at (condition (root c)) none) path e
+
+unfoldable pub demands-part : Contents → List Finding
+demands-part c = pick (holds-sigil (root c)) [] (found demand-below demand-broken (asked-at (condition (root c)) none))
 
 -- ---- the arithmetic test
 

@@ -77,7 +77,7 @@ Breaks (for-names rule n s) e = (x : ℕ) × (x < most-names) × (s x ≡ true) 
 Breaks (at-cells rule s cells) e =
     (i : ℕ) × (c : Cell) × (getElem? cells i ≡ some c) × (s (c .name .0) ≡ true) × (e ≡ entry rule i (c .node) (Name (c .name)))
 
--- the entry is unmet at the place that the path leads to
+-- the entry is unmet at the place that the path leads to, where `broken` gives the rules that are broken at a place
 abbrev pub Unmet : (Place → List Place) → (Place → List Broken) → Place → List ℕ → Entry → Type 0
 Unmet below broken p path e = (b : Broken) × List·Memᴰ b (broken (place below p path)) × Breaks b e
 
@@ -103,15 +103,15 @@ abbrev pub Precedes : Located → Located → Type 0
 Precedes a b = Before (a .path) (b .path) ⊎ ((a .path ≡ b .path) × Earlier (a .item) (b .item))
 
 -- each before all that follow it, so each stands once
-abbrev pub Ascending : List Located → Type 0
-Ascending [] = Unit {0}
-Ascending (a ∷ l) = ((b : Located) → List·Memᴰ b l → Precedes a b) × Ascending l
+abbrev pub Ascending : {A : Type 0} → (A → A → Type 0) → List A → Type 0
+Ascending R [] = Unit {0}
+Ascending {A} R (a ∷ l) = ((b : A) → List·Memᴰ b l → R a b) × Ascending R l
 
 -- the list holds what is unmet by `Holds`, each once, in document order, and nothing else
 pub record Exactly (Holds : List ℕ → Entry → Type 0) (found : List Finding) : Type 0 where
   pub located : List Located
   pub findings : map (λ (l : Located). l .item .finding) located ≡ found
-  pub sorted : Ascending located
+  pub sorted : Ascending Precedes located
   pub sound : (l : Located) → List·Memᴰ l located → Holds (l .path) (l .item)
   pub complete : (l : Located) → Holds (l .path) (l .item) → List·Memᴰ l located
 
@@ -139,7 +139,7 @@ spot-size (searched t) = term-size t
 spot-size (searched-arguments l) = arguments-size l
 spot-size (searched-items l) = items-size l
 
--- what is broken at a place, then what is found at each place below, left first; `deep` bounds how far down
+-- what is broken at a place, then what is found at each place below, left first; `deep` bounds how far down, so that the list can be computed
 unfoldable pub found-within : (Place → List Place) → (Place → List Broken) → ℕ → Place → List Finding
 found-within below broken zero p = []
 found-within below broken (suc deep) p = gather findings (broken p) ++ gather (found-within below broken deep) (below p)

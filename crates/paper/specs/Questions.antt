@@ -16,8 +16,9 @@ use Rattle.paper.specs.Record.{pick}
 use Rattle.paper.specs.Sets.{Set}
 use Rattle.paper.specs.TurnedAway.{Contents, Outcome, refused, accepted, read}
 use Rattle.paper.specs.Tree.{root}
-use Rattle.paper.specs.Demands.{has-arith}
-use Rattle.paper.specs.TheList.{scoping-part, closedness-part, demands-part, packed, name-or-255, name-text}
+use Rattle.paper.specs.Scoping.{scoping-part}
+use Rattle.paper.specs.Demands.{closedness-part, demands-part, has-arith}
+use Rattle.paper.specs.TheList.{packed, name-or-255, name-text}
 
 -- ---- "Scoping (bytes and seed), closedness and demands answer 'accepted' or their first entry"
 

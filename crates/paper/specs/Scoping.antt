@@ -1,17 +1,17 @@
 -- Document 01, 'Scoping: 20 to 27': where the walk goes, which names are in scope there, and which rules are broken. Assumes nothing: these are definitions.
 use Prim.Native.Nat.{ℕ}
 use mathlib.Core.Bool.{Bool, true, false, _||_}
-use mathlib.Core.List.{List, [], _∷_}
-use lib.ListN.{getD, take, drop, length, replicate}
+use mathlib.Core.List.{List, [], _∷_, _++_}
+use lib.ListN.{getD}
 use lib.Dec.{eqb}
-use mathlib.Core.List.{_++_}
-use Prim.Native.Nat.{_-_}
 use Rattle.paper.specs.declared.NodeNo.{NodeNo}
+use Rattle.paper.specs.declared.Finding.{Finding}
 use Rattle.paper.specs.declared.Slot.{Slot}
 use Rattle.paper.specs.declared.Slot.the-variants as slot
 use Rattle.paper.specs.Record.{pick, ascii, zeros}
 use Rattle.paper.specs.Sets.{Set, none, _∪_, _∩_, _∖_, outside}
-use Rattle.paper.specs.Tree.{Condition, Term, Arguments, Items, Binders}
+use Rattle.paper.specs.TurnedAway.{Contents}
+use Rattle.paper.specs.Tree.{Condition, Term, Arguments, Items, Binders, root}
 use Rattle.paper.specs.Tree.Condition.{And, Or, Not, Past, Since, Exists, Comparison, Predicate, Refine, Tp, Opaque}
 use Rattle.paper.specs.Tree.Term.{Var, Wildcard, Value, Sigil, Array, Arith, Sum, Count, AggregateCall}
 use Rattle.paper.specs.Tree.Arguments.{no-argument, argument}
@@ -32,6 +32,9 @@ use Rattle.paper.specs.Places.{
   itself,
   for-names,
   at-cells,
+  Entry,
+  Unmet,
+  found,
 }
 
 -- ---- reserved names
@@ -190,3 +193,12 @@ module _ (words : Set) where
 
   unfoldable pub scope-broken : Place → List Broken
   scope-broken p = spot-broken (p .spot) (p .names)
+
+-- ---- what is unmet, and this part of the list
+
+-- an entry of 20 to 27 is unmet at the end of a path from the root, where the caller's seed is in scope
+abbrev pub ScopingUnmet : Contents → Set → List ℕ → Entry → Type 0
+ScopingUnmet c seed path e = Unmet scope-below (scope-broken (reserved (c .names))) (asked-at (condition (root c)) seed) path e
+
+unfoldable pub scoping-part : Contents → Set → List Finding
+scoping-part c seed = found scope-below (scope-broken (reserved (c .names))) (asked-at (condition (root c)) seed)

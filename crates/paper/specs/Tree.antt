@@ -155,8 +155,11 @@ unfoldable pub tree-at : List Node → ℕ → Tree
 tree-at nodes k = trees nodes (suc k) k
 
 -- "Nodes count from 0; the last is the root"
+unfoldable pub root-no : Contents → NodeNo
+root-no c = node-no (length (c .nodes) - 1)
+
 unfoldable pub root : Contents → Condition
-root c = as-condition (tree-at (c .nodes) (length (c .nodes) - 1))
+root c = as-condition (tree-at (c .nodes) (root-no c .0))
 
 -- ---- how many nodes a tree has
 
