@@ -1,2 +1,6 @@
 -- What is true of the definitions alone.
 pub mod Cases
+pub mod Ascending
+pub mod Entries
+pub mod Walks
+pub mod Exact

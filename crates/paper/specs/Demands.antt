@@ -87,7 +87,7 @@ demand-below p = below-spot (p .spot) (p .names)
 -- ---- demands: which rules are broken at a place
 
 -- "30, binding equality: the other side's free names must be tied. 31, other comparison: all its free names."
-abbrev comparison-broken : NodeNo → Term → Term → Set → Tied → List Broken
+abbrev pub comparison-broken : NodeNo → Term → Term → Set → Tied → List Broken
 comparison-broken n l r tied (Left x) = for-names 30 n (term-free r ∖ tied) ∷ []
 comparison-broken n l r tied (Right x) = for-names 30 n (term-free l ∖ tied) ∷ []
 comparison-broken n l r tied Neither = for-names 31 n ((term-free l ∪ term-free r) ∖ tied) ∷ []
