@@ -1,13 +1,11 @@
-mod file;
-
 use std::collections::BTreeSet;
 use std::fmt;
 use std::ops::RangeInclusive;
-use std::path::Path;
 use std::process::ExitCode;
 
-use file::{Case, Entry};
 use plain::answers::{arithmetic, closedness, demands, scoping, Answer};
+use plain::cases::{of_document_01, Case};
+use plain::lists::Entry;
 use plain::Record;
 
 const SCOPING: RangeInclusive<u32> = 20..=27;
@@ -26,10 +24,7 @@ fn main() -> ExitCode {
 }
 
 fn run() -> Result<usize, String> {
-    let path = Path::new(env!("CARGO_MANIFEST_DIR")).join("../cases.txt");
-    let text = std::fs::read_to_string(&path)
-        .map_err(|fault| format!("cases.txt cannot be read: {fault}"))?;
-    let cases = file::parse(&text)?;
+    let cases = of_document_01()?;
     let mut differences = 0;
     for case in &cases {
         differences += run_case(case)?;
@@ -132,7 +127,7 @@ fn name_in_question(entry: &Entry, record: &Record) -> Result<Option<String>, St
     let Some(number) = entry.name else {
         return Ok(None);
     };
-    match record.names.get(number) {
+    match record.names.get(usize::from(number)) {
         Some(name) => Ok(Some(name.clone())),
         None => Err(format!(
             "rule {} is about name {number}, which its record does not have",

@@ -152,7 +152,7 @@ impl Reader {
     }
 }
 
-fn node_body_length(kind: u8) -> Option<usize> {
+pub(crate) fn node_body_length(kind: u8) -> Option<usize> {
     match kind {
         0x10 | 0x11 => Some(4),
         0x12 => Some(2),

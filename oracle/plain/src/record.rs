@@ -5,6 +5,21 @@ pub struct Record {
     pub nodes: Vec<Node>,
 }
 
+impl Record {
+    pub fn root(&self) -> NodeNumber {
+        let last = self.nodes.len() - 1;
+        NodeNumber(u16::try_from(last).expect("the reader takes no more than 512 nodes"))
+    }
+
+    pub fn node(&self, number: NodeNumber) -> Node {
+        self.nodes[usize::from(number.0)]
+    }
+
+    pub fn name(&self, number: NameNumber) -> &str {
+        &self.names[usize::from(number.0)]
+    }
+}
+
 #[derive(Debug, Clone, Copy, PartialEq, Eq)]
 pub struct NameNumber(pub u8);
 
@@ -126,4 +141,40 @@ pub enum Node {
         type_byte: u8,
         rest: NodeNumber,
     },
+}
+
+impl Node {
+    pub fn children(&self) -> Vec<NodeNumber> {
+        match *self {
+            Node::And { left, right }
+            | Node::Or { left, right }
+            | Node::Since { left, right, .. }
+            | Node::Comparison { left, right, .. }
+            | Node::Arith { left, right, .. } => vec![left, right],
+            Node::Not { inner } => vec![inner],
+            Node::Formerly { body, .. }
+            | Node::Previous { body, .. }
+            | Node::Exists { body, .. } => vec![body],
+            Node::Predicate { arguments, .. } => vec![arguments],
+            Node::Refine { base, arguments } => vec![base, arguments],
+            Node::Array { items } => vec![items],
+            Node::Sum { binders, body, .. } | Node::Count { binders, body } => vec![binders, body],
+            Node::ArgumentCell { term, rest, .. } | Node::ItemCell { term, rest } => {
+                vec![term, rest]
+            }
+            Node::BinderCell { rest, .. } => vec![rest],
+            Node::Tp { .. }
+            | Node::Call { .. }
+            | Node::SigilRef { .. }
+            | Node::Var { .. }
+            | Node::Wildcard
+            | Node::Literal { .. }
+            | Node::ScopeField { .. }
+            | Node::ContextField { .. }
+            | Node::ParamRef { .. }
+            | Node::BinderRef { .. }
+            | Node::AggregateCall { .. }
+            | Node::ListEnd => Vec::new(),
+        }
+    }
 }

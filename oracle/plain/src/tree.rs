@@ -10,8 +10,7 @@ use crate::record::{NameNumber, Node, NodeNumber, Record, Slot};
 
 /// The record must be one that [`crate::read`] accepted.
 pub fn condition(record: &Record) -> Condition {
-    let (root, _) = record.nodes.split_last().expect("a record has a root");
-    Tree { record }.condition_of(root)
+    *Tree { record }.condition(record.root())
 }
 
 struct Tree<'a> {
@@ -19,15 +18,16 @@ struct Tree<'a> {
 }
 
 impl Tree<'_> {
-    fn condition_of(&self, node: &Node) -> Condition {
-        Condition {
+    fn condition(&self, number: NodeNumber) -> Box<Condition> {
+        Box::new(Condition {
             span: Span,
-            kind: self.condition_kind(node),
-        }
+            kind: self.condition_kind(number),
+        })
     }
 
-    fn condition_kind(&self, node: &Node) -> ConditionKind {
-        match *node {
+    fn condition_kind(&self, number: NodeNumber) -> ConditionKind {
+        let node = self.record.node(number);
+        match node {
             Node::And { left, right } => ConditionKind::And {
                 left: self.condition(left),
                 right: self.condition(right),
@@ -93,13 +93,9 @@ impl Tree<'_> {
         }
     }
 
-    fn condition(&self, number: NodeNumber) -> Box<Condition> {
-        Box::new(self.condition_of(self.node(number)))
-    }
-
     fn term(&self, number: NodeNumber) -> Term {
-        let node = self.node(number);
-        match *node {
+        let node = self.record.node(number);
+        match node {
             Node::Var { name } => Term::Var(self.name(name)),
             Node::Wildcard => Term::Wildcard,
             Node::Literal { symbol } => Term::Integer(i64::from(symbol)),
@@ -133,7 +129,7 @@ impl Tree<'_> {
 
     fn arguments(&self, mut list: NodeNumber) -> Vec<NamedArg> {
         let mut arguments = Vec::new();
-        while let Node::ArgumentCell { field, term, rest } = *self.node(list) {
+        while let Node::ArgumentCell { field, term, rest } = self.record.node(list) {
             arguments.push(NamedArg {
                 name: field.to_string(),
                 value: self.term(term),
@@ -145,7 +141,7 @@ impl Tree<'_> {
 
     fn items(&self, mut list: NodeNumber) -> Vec<Term> {
         let mut items = Vec::new();
-        while let Node::ItemCell { term, rest } = *self.node(list) {
+        while let Node::ItemCell { term, rest } = self.record.node(list) {
             items.push(self.term(term));
             list = rest;
         }
@@ -158,7 +154,7 @@ impl Tree<'_> {
             slot,
             type_byte,
             rest,
-        } = *self.node(list)
+        } = self.record.node(list)
         {
             binders.push(self.typed_binder(slot, type_byte));
             list = rest;
@@ -181,12 +177,8 @@ impl Tree<'_> {
         }
     }
 
-    fn node(&self, number: NodeNumber) -> &Node {
-        &self.record.nodes[usize::from(number.0)]
-    }
-
     fn name(&self, number: NameNumber) -> String {
-        self.record.names[usize::from(number.0)].clone()
+        self.record.name(number).to_string()
     }
 }
 

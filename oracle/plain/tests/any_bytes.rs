@@ -4,21 +4,10 @@ use std::collections::BTreeSet;
 
 use common::full_record;
 use plain::answers::{arithmetic, closedness, demands, scoping};
+use plain::random::Rng;
 use plain::{condition, read};
 
 const ROUNDS: usize = 300_000;
-
-/// Marsaglia's xorshift: the same numbers in every run.
-struct Numbers(u64);
-
-impl Numbers {
-    fn next(&mut self) -> usize {
-        self.0 ^= self.0 << 13;
-        self.0 ^= self.0 >> 7;
-        self.0 ^= self.0 << 17;
-        (self.0 >> 32) as usize
-    }
-}
 
 fn read_and_ask(bytes: &[u8]) -> bool {
     let Ok(record) = read(bytes) else {
@@ -34,13 +23,13 @@ fn read_and_ask(bytes: &[u8]) -> bool {
 
 #[test]
 fn nothing_panics_on_changed_records() {
-    let mut numbers = Numbers(1);
+    let mut rng = Rng::new(1);
     let mut accepted = 0;
     for _ in 0..ROUNDS {
         let mut bytes = full_record();
-        for _ in 0..1 + numbers.next() % 3 {
-            let place = numbers.next() % bytes.len();
-            bytes[place] = numbers.next() as u8;
+        for _ in 0..1 + rng.below(3) {
+            let place = rng.below(bytes.len());
+            bytes[place] = rng.byte();
         }
         accepted += usize::from(read_and_ask(&bytes));
     }
@@ -50,11 +39,11 @@ fn nothing_panics_on_changed_records() {
 #[test]
 fn nothing_panics_on_any_bytes() {
     const LIKELY: [u8; 12] = [0, 1, 2, 3, 0x10, 0x16, 0x17, 0x1B, 0x20, 0x22, 0x30, 0x7F];
-    let mut numbers = Numbers(2);
+    let mut rng = Rng::new(2);
     for _ in 0..ROUNDS {
         let mut bytes = vec![0x01, 0x01];
-        for _ in 0..numbers.next() % 40 {
-            bytes.push(LIKELY[numbers.next() % LIKELY.len()]);
+        for _ in 0..rng.below(40) {
+            bytes.push(rng.choose(&LIKELY));
         }
         read_and_ask(&bytes);
     }

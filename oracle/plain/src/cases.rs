@@ -1,5 +1,7 @@
 //! The text of cases.txt.
 
+use crate::lists::Entry;
+
 pub struct Case {
     pub label: String,
     pub bytes: Vec<u8>,
@@ -7,10 +9,8 @@ pub struct Case {
     pub arithmetic: bool,
 }
 
-/// One `rule@node:name` of a list. The node is left out: the Rust gives none to hold against it.
-pub struct Entry {
-    pub rule: u32,
-    pub name: Option<usize>,
+pub fn of_document_01() -> Result<Vec<Case>, String> {
+    parse(include_str!("../../cases.txt"))
 }
 
 pub fn parse(text: &str) -> Result<Vec<Case>, String> {
@@ -60,9 +60,13 @@ fn entry(word: &str) -> Result<Entry, String> {
     let (rule, place) = word
         .split_once('@')
         .ok_or_else(|| format!("an entry without a node: {word}"))?;
-    let name = place.split_once(':').map(|(_node, name)| name);
+    let (node, name) = match place.split_once(':') {
+        Some((node, name)) => (node, Some(name)),
+        None => (place, None),
+    };
     Ok(Entry {
         rule: listed_rule(number(rule)?)?,
+        node: number(node)?,
         name: name.map(number).transpose()?,
     })
 }

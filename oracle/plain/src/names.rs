@@ -1,0 +1,180 @@
+//! Document 01's free and restricted names, and what holds a sigil.
+
+use crate::record::{NameNumber, Node, NodeNumber, Record, Slot};
+
+/// A bit for each name of the table.
+pub type Names = u128;
+
+const EQUALITY: u8 = 0;
+
+pub fn only(name: NameNumber) -> Names {
+    1 << name.0
+}
+
+pub fn named(slot: Slot) -> Names {
+    match slot {
+        Slot::Name(name) => only(name),
+        Slot::Parameter(_) | Slot::Binder(_) => 0,
+    }
+}
+
+pub fn is_sigil(slot: Slot) -> bool {
+    match slot {
+        Slot::Name(_) => false,
+        Slot::Parameter(_) | Slot::Binder(_) => true,
+    }
+}
+
+pub fn ascending(names: Names) -> impl Iterator<Item = NameNumber> {
+    (0..128)
+        .map(NameNumber)
+        .filter(move |&name| names & only(name) != 0)
+}
+
+/// The side of a binding equality that its name is bound to, and the name.
+pub struct Binding {
+    pub name: NameNumber,
+    pub value: NodeNumber,
+}
+
+pub struct BinderCell {
+    pub node: NodeNumber,
+    pub slot: Slot,
+}
+
+impl Record {
+    /// Of a condition, a term, or a list of arguments or items.
+    pub fn free(&self, number: NodeNumber) -> Names {
+        match self.node(number) {
+            Node::And { left, right }
+            | Node::Or { left, right }
+            | Node::Since { left, right, .. }
+            | Node::Comparison { left, right, .. }
+            | Node::Arith { left, right, .. } => self.free(left) | self.free(right),
+            Node::Not { inner } => self.free(inner),
+            Node::Formerly { body, .. } | Node::Previous { body, .. } => self.free(body),
+            Node::Exists { slot, body, .. } => self.free(body) & !named(slot),
+            Node::Predicate { arguments, .. } => self.free(arguments),
+            Node::Refine { base, arguments } => self.free(base) | self.free(arguments),
+            Node::Tp { slot } => named(slot),
+            Node::Var { name } => only(name),
+            Node::Array { items } => self.free(items),
+            Node::Sum { binders, body, .. } | Node::Count { binders, body } => {
+                self.free(body) & !self.bound(binders)
+            }
+            Node::ArgumentCell { term, rest, .. } | Node::ItemCell { term, rest } => {
+                self.free(term) | self.free(rest)
+            }
+            Node::Call { .. }
+            | Node::SigilRef { .. }
+            | Node::Wildcard
+            | Node::Literal { .. }
+            | Node::ScopeField { .. }
+            | Node::ContextField { .. }
+            | Node::ParamRef { .. }
+            | Node::BinderRef { .. }
+            | Node::AggregateCall { .. }
+            | Node::ListEnd
+            | Node::BinderCell { .. } => 0,
+        }
+    }
+
+    pub fn restricted(&self, condition: NodeNumber) -> Names {
+        match self.node(condition) {
+            Node::And { left, right } => self.restricted(left) | self.restricted(right),
+            Node::Formerly { body, .. } | Node::Previous { body, .. } => self.restricted(body),
+            Node::Since { right, .. } => self.restricted(right),
+            Node::Exists { slot, body, .. } => self.restricted(body) & !named(slot),
+            Node::Comparison { op, left, right } => self
+                .binding(op, left, right)
+                .map_or(0, |binding| only(binding.name)),
+            Node::Predicate { arguments, .. } => self.direct(arguments),
+            Node::Refine { base, arguments } => self.restricted(base) | self.direct(arguments),
+            Node::Tp { slot } => named(slot),
+            _ => 0,
+        }
+    }
+
+    pub fn binding(&self, op: u8, left: NodeNumber, right: NodeNumber) -> Option<Binding> {
+        if op != EQUALITY {
+            return None;
+        }
+        let (name, value) = match (self.bare(left), self.bare(right)) {
+            (Some(name), None) => (name, right),
+            (None, Some(name)) => (name, left),
+            _ => return None,
+        };
+        (!self.is_open(value)).then_some(Binding { name, value })
+    }
+
+    fn bare(&self, term: NodeNumber) -> Option<NameNumber> {
+        match self.node(term) {
+            Node::Var { name } => Some(name),
+            _ => None,
+        }
+    }
+
+    fn is_open(&self, term: NodeNumber) -> bool {
+        match self.node(term) {
+            Node::Wildcard => true,
+            Node::Arith { .. } => self.has_wildcard(term),
+            _ => false,
+        }
+    }
+
+    fn has_wildcard(&self, number: NodeNumber) -> bool {
+        match self.node(number) {
+            Node::Wildcard => true,
+            Node::Arith { left, right, .. } => self.has_wildcard(left) || self.has_wildcard(right),
+            Node::Array { items } => self.has_wildcard(items),
+            Node::ItemCell { term, rest } => self.has_wildcard(term) || self.has_wildcard(rest),
+            _ => false,
+        }
+    }
+
+    fn direct(&self, arguments: NodeNumber) -> Names {
+        match self.node(arguments) {
+            Node::ArgumentCell { term, rest, .. } => {
+                self.bare(term).map_or(0, only) | self.direct(rest)
+            }
+            _ => 0,
+        }
+    }
+
+    pub fn binder_cells(&self, mut list: NodeNumber) -> Vec<BinderCell> {
+        let mut cells = Vec::new();
+        while let Node::BinderCell { slot, rest, .. } = self.node(list) {
+            cells.push(BinderCell { node: list, slot });
+            list = rest;
+        }
+        cells
+    }
+
+    pub fn bound(&self, binders: NodeNumber) -> Names {
+        self.binder_cells(binders)
+            .iter()
+            .fold(0, |names, cell| names | named(cell.slot))
+    }
+
+    /// Of a condition, a term, or a list.
+    pub fn holds_sigil(&self, number: NodeNumber) -> bool {
+        let node = self.node(number);
+        is_itself_sigil(&node)
+            || node
+                .children()
+                .into_iter()
+                .any(|child| self.holds_sigil(child))
+    }
+}
+
+fn is_itself_sigil(node: &Node) -> bool {
+    match *node {
+        Node::Call { .. }
+        | Node::SigilRef { .. }
+        | Node::AggregateCall { .. }
+        | Node::ParamRef { .. }
+        | Node::BinderRef { .. } => true,
+        Node::Tp { slot } => is_sigil(slot),
+        _ => false,
+    }
+}
