@@ -1,0 +1,2 @@
+-- When two names are the same, byte by byte.
+pub mod Same
