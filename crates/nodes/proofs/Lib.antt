@@ -1,0 +1,3 @@
+-- The laws of a node's record that the proof of `node_from` cites.
+pub mod Offsets
+pub mod Unnamed

@@ -1,0 +1,2 @@
+-- The node that a record's bytes say.
+pub mod Decoded

@@ -1,0 +1,43 @@
+// Bytes and numbers of a slice at a place, for any place: past the end they are 0.
+ghost use mathlib.Core.Path.{_≡_};
+ghost use Prim.Native.Nat.{_+_, _*_, _<_};
+ghost use lib.ListN.{drop, getD};
+
+pub fn byte(b: &[u8], i: usize) -> u8
+    ensures { λ r. ⌜ r ≡ getD (now (b .entry)) i 0 ⌝ }
+{
+    if i < b.len() { b[i] } else { 0 }
+}
+
+// The byte after that.
+pub fn byte_after(b: &[u8], i: usize) -> u8
+    ensures { λ r. ⌜ r ≡ getD (now (b .entry)) (i + 1) 0 ⌝ }
+{
+    if i < b.len() { byte(b, i + 1) } else { 0 }
+}
+
+// The two bytes at a place, the low one first.
+pub fn number(b: &[u8], i: usize) -> u16
+    ensures { λ r. ⌜ r ≡ getD (now (b .entry)) i 0 + 256 * getD (now (b .entry)) (i + 1) 0 ⌝ }
+{
+    (byte(b, i) as u16) + 256 * (byte_after(b, i) as u16)
+}
+
+// The bytes from a place on.
+pub fn tail(b: &[u8], i: usize) -> &[u8]
+    ensures { λ r. ⌜ now r ≡ drop i (now (b .entry)) ⌝ }
+{
+    if i <= b.len() { &b[i..] } else { &b[b.len()..] }
+}
+
+pub fn wide(x: u8) -> usize
+    ensures { λ r. ⌜ r ≡ x ⌝ }
+{
+    x as usize
+}
+
+pub fn long(x: u16) -> usize
+    ensures { λ r. ⌜ (r ≡ x) × (r < 65536) ⌝ }
+{
+    x as usize
+}
