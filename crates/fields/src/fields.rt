@@ -1,0 +1,147 @@
+// The fields of one node record. A field reader is handed the part of the record after its kind byte.
+ghost use mathlib.Core.Path.{_≡_};
+ghost use Prim.Native.Nat.{_≤_, _<_, _+_, _*_};
+ghost use lib.ListN.{length, getD, drop};
+ghost use Rattle.paper.specs.Record.{fits as fits-sort};
+ghost use Rattle.fields.specs.Memory.{told, sort-of, refer-in, refer-if, out-of-range, checked-in};
+use crate::rows::Row;
+use octets::byte;
+use octets::number;
+use octets::wide;
+use paper::NodeNo;
+
+// What the fields of a record say: a fault's number or 0, and the depth of the deepest child. The nodes referred to are marked in a lent array.
+pub struct Told {
+    pub fault: u8,
+    pub deep: u8,
+}
+
+// Whether a node of a kind fits a sort: 1 a condition, 2 a term, 3 arguments, 4 items, any other binders.
+pub fn fits(sort: u8, kind: u8) -> bool
+    ensures { λ r. ⌜ r ≡ fits-sort (sort-of sort) kind ⌝ }
+{
+    match sort {
+        1 => (16 <= kind) & (kind <= 28),
+        2 => (32 <= kind) & (kind <= 43),
+        3 => (kind == 48) | (kind == 49),
+        4 => (kind == 48) | (kind == 50),
+        _ => (kind == 48) | (kind == 51),
+    }
+}
+
+// A reference to node k from node own: 8 where it is not below, 9 where it does not fit, 11 where it is referred to already.
+pub fn refer<'a>(
+    k: NodeNo,
+    sort: u8,
+    own: usize,
+    kinds: &'a [u8; 512],
+    depths: &'a [u8; 512],
+    used: &mut [u8; 512],
+    deep: u8,
+) -> Told
+    requires { ⌜ own < 512 ⌝ }
+    ensures { λ r. ⌜ told r (now (used .exit)) ≡ refer-in (now (kinds .entry)) (now (depths .entry)) (sort-of sort) (k .0) own deep (now (used .entry)) ⌝ }
+{
+    let i = k.0 as usize;
+    if own <= i {
+        return Told {
+            fault: 8,
+            deep: deep,
+        };
+    }
+    if !fits(sort, kinds[i]) {
+        return Told {
+            fault: 9,
+            deep: deep,
+        };
+    }
+    if used[i] != 0 {
+        return Told {
+            fault: 11,
+            deep: deep,
+        };
+    }
+    used[i] = 1;
+    let d = depths[i];
+    if deep < d {
+        return Told { fault: 0, deep: d };
+    }
+    Told {
+        fault: 0,
+        deep: deep,
+    }
+}
+
+// A row's reference, if it has one.
+pub fn refer_at<'a>(
+    b: &[u8],
+    sort: u8,
+    at: u8,
+    own: usize,
+    kinds: &'a [u8; 512],
+    depths: &'a [u8; 512],
+    used: &mut [u8; 512],
+    deep: u8,
+) -> Told
+    requires { ⌜ own < 512 ⌝ }
+    ensures { λ r. ⌜ told r (now (used .exit)) ≡ refer-if (now (kinds .entry)) (now (depths .entry)) (now (b .entry)) sort at own deep (now (used .entry)) ⌝ }
+{
+    if sort == 0 {
+        return Told {
+            fault: 0,
+            deep: deep,
+        };
+    }
+    refer(
+        NodeNo(number(b, wide(at))),
+        sort,
+        own,
+        kinds,
+        depths,
+        used,
+        deep,
+    )
+}
+
+// Whether the first field is out of range: a name's number, an op of a comparison, an op of arithmetic or a slot, by the row's number for it.
+pub fn range_bad(range: u8, x: u8, y: u8, names: usize) -> bool
+    ensures { λ r. ⌜ r ≡ out-of-range range x y names ⌝ }
+{
+    ((range == 1) & (names <= wide(x)))
+        | (((range == 2) & (5 < x))
+            | (((range == 3) & (2 < x))
+                | ((range == 4) & ((2 < x) | ((x == 0) & (names <= wide(y)))))))
+}
+
+// The fields of a record in order, and then its depth: 10 where a child has 64 already.
+pub fn checked<'a>(
+    b: &[u8],
+    row: Row,
+    names: usize,
+    own: usize,
+    kinds: &'a [u8; 512],
+    depths: &'a [u8; 512],
+    used: &mut [u8; 512],
+) -> Told
+    requires { ⌜ own < 512 ⌝ }
+    ensures { λ r. ⌜ told r (now (used .exit)) ≡ checked-in (now (kinds .entry)) (now (depths .entry)) (now (b .entry)) row names own (now (used .entry)) ⌝ }
+{
+    if range_bad(row.range, byte(b, 0), byte(b, 1), names) {
+        return Told { fault: 7, deep: 0 };
+    }
+    let one = refer_at(b, row.sort1, row.at1, own, kinds, depths, used, 0);
+    if one.fault != 0 {
+        return one;
+    }
+    let two = refer_at(b, row.sort2, row.at2, own, kinds, depths, used, one.deep);
+    if two.fault != 0 {
+        return two;
+    }
+    if 64 <= two.deep {
+        return Told {
+            fault: 10,
+            deep: two.deep,
+        };
+    }
+    two
+}

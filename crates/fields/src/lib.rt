@@ -1,0 +1,3 @@
+// The table of kinds, and the fields of one node record.
+pub mod fields;
+pub mod rows;
