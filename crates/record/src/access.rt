@@ -1,0 +1,52 @@
+// A node and a name by their numbers.
+use crate::reader::read;
+use nodes::node_from;
+use octets::long;
+use paper::NameNo;
+use paper::Node;
+use paper::NodeNo;
+use paper::Verdict;
+use words::unpadded;
+ghost use mathlib.Core.Path.{_≡_};
+ghost use Prim.Native.Nat.{_<_};
+ghost use lib.ListN.{length, getD, take, drop};
+ghost use Rattle.paper.specs.declared.Node.the-variants.{ListEnd};
+ghost use Rattle.paper.specs.Questions.{name as name-asked};
+ghost use Rattle.record.specs.Stored.{contents, Stored};
+
+// The one function that knows where a node lies.
+pub fn node_at(bytes: &[u8], starts: &[u16; 512], i: NodeNo) -> Node
+    requires { ⌜ Stored (now bytes) (now starts) × (i .0 < length (contents (now bytes) .nodes)) ⌝ }
+    ensures { λ r. ⌜ r ≡ getD (contents (now (bytes .entry)) .nodes) (i .0) ListEnd ⌝ }
+{
+    node_from(bytes, long(starts[i.0 as usize]))
+}
+
+// At most 24 bytes from a place on, as far as there are any.
+fn stretch(bytes: &[u8], at: usize) -> &[u8]
+    ensures { λ r. ⌜ now r ≡ take 24 (drop at (now (bytes .entry))) ⌝ }
+{
+    if bytes.len() <= at {
+        return &bytes[..0];
+    }
+    if bytes.len() - at <= 24 {
+        return &bytes[at..];
+    }
+    &bytes[at..at + 24]
+}
+
+// The name of a number, as the part of the record where it stands, without its padding; nothing for an unknown number or a record that is turned away.
+pub fn name(bytes: &[u8], x: NameNo) -> &[u8]
+    ensures { λ r. ⌜ now r ≡ name-asked (now (bytes .entry)) (x .0) ⌝ }
+{
+    let r = read(bytes);
+    let v = r.verdict;
+    let Verdict::Counts { names, nodes: _ } = v else {
+        return &bytes[..0];
+    };
+    let k = x.0 as usize;
+    if names <= k {
+        return &bytes[..0];
+    }
+    unpadded(stretch(bytes, 3 + 25 * k))
+}
