@@ -1,0 +1,2 @@
+-- A verdict as plain numbers.
+pub mod Numbers
