@@ -26,6 +26,7 @@ use Rattle.paper.specs.Record.{
   announced,
   body-bytes,
 }
+use Rattle.paper.proofs.Fields.{as-node}
 use Rattle.fields.specs.Rows.{range-code, placed, references, row-for}
 use Rattle.fields.proofs.FieldLaws.{Plain, RowLike}
 
@@ -90,16 +91,6 @@ known-in (x ∷ rs) k r g e = go (eqb k (x .kind)) refl e (λ h. known-in rs k r
         let d : x ≡ r = node-eq x r q in
         (sym (ap good? d) ∙ and-left _ _ g, sym (ap (λ (z : Kind). z .kind) d) ∙ sym (eqb-true k (x .kind) p))
     go false p q f = f q
-
-as-node : (k : ℕ) (r : Kind) → announced k ≡ node r → node-kind kinds k ≡ node r
-unfolding announced
-as-node k r e = go (eqb k 0x01) (eqb k 0x02) (eqb k 0x7F) e
-  where
-    go : (a b c : Bool) → pick a format (pick b name (pick c end (node-kind kinds k))) ≡ node r → node-kind kinds k ≡ node r
-    go true b c e = absurd (let z : _≡_ {A = ℕ} 0 1 = cc in omega arith)
-    go false true c e = absurd (let z : _≡_ {A = ℕ} 0 1 = cc in omega arith)
-    go false false true e = absurd (let z : _≡_ {A = ℕ} 0 1 = cc in omega arith)
-    go false false false e = e
 
 pub known : (k : ℕ) (r : Kind) → announced k ≡ node r → Known k r
 unfolding good?

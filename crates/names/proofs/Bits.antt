@@ -10,6 +10,7 @@ use lib.Dec.{eqb, ltb, lit<}
 use lib.Bits.{bitAnd, bitOr, bitXor, and-shr, or-shr, xor-shr, and-mod, or-mod, xor-mod, and-mask}
 use lib.Pow.{high, low, shr-lt, split, pow-pos, ones-lt, ones-split, pow-mono, pow-lt, pow-add, shl-shr, shl-exact}
 use borrow.Author.Tests.{eq-eqb, ne-eqb, ltb-true, ltb-false, lt-ltb, le-ltb}
+use Rattle.paper.proofs.SetLaws.{all-get}
 use Rattle.names.specs.Words.{bit, mem}
 use Rattle.paper.specs.Sets.{Set, none, only, _∪_, _∖_, below, outside, all-below}
 use Rattle.names.specs.declared.Names.{Names}
@@ -225,17 +226,6 @@ fits-less w n h e =
 no-bit : (n w : ℕ) → w < 2 ^ n → ((k : ℕ) → k < n → bit w k ≡ false) → w ≡ 0
 no-bit zero w h f = omega arith
 no-bit (suc n) w h f = no-bit n w (fits-less w n h (f n (omega arith))) (λ k l. f k (omega arith))
-
-all-get : (n : ℕ) (a : Set) → all-below n a ≡ true → (k : ℕ) → k < n → a k ≡ true
-unfolding all-below
-all-get zero a e k h = absurd (omega arith)
-all-get (suc n) a e k h = go (a n) (all-below n a) refl refl e (λ q l. all-get n a q k l) (decLt k n)
-  where
-    go : (x y : Bool) → a n ≡ x → all-below n a ≡ y → (x && y) ≡ true → (all-below n a ≡ true → k < n → a k ≡ true) → Dec (k < n) → a k ≡ true
-    go true true p q r f (yes l) = f q l
-    go true true p q r f (no l) = let d : k ≡ n = omega arith in ap a d ∙ p
-    go true false p q r f d = absurd (false≢true r)
-    go false y p q r f d = absurd (false≢true r)
 
 none-below : all-below 128 (outside none) ≡ true
 unfolding all-below outside none

@@ -2,15 +2,15 @@
 -- every record that is read on from, holds at the end record. Assumes nothing.
 use mathlib.Core.Path.{_≡_, refl, sym, ap, _∙_, subst}
 use mathlib.Core.Bool.{Bool, true, false, _&&_, true≢false}
-use mathlib.Core.List.{List, [], _∷_, _++_}
+use mathlib.Core.List.{List, [], _∷_, _++_, map}
 use Prim.Native.Nat.{ℕ, zero, suc, _+_, _-_, _≤_, _<_}
 use native.Mathlib.Omega.{arith}
 use native.Mathlib.Numerals.{add-one}
 use lib.Dec.{eqb, leb}
 use lib.ListN.{length, take, drop, getD}
 use lib.Seq.{drop-drop}
-use borrow.Author.Tests.{leb-true, leb-false, eqb-true}
-use Rattle.paper.specs.Sets.{Set}
+use borrow.Author.Tests.{leb-true, leb-false, eqb-true, eq-eqb}
+use Rattle.paper.specs.Sets.{Set, all-below}
 use Rattle.paper.specs.Record.{
   pick,
   most-names,
@@ -19,6 +19,9 @@ use Rattle.paper.specs.Record.{
   is-name,
   precedes,
   byte,
+  two-bytes,
+  condition,
+  fits,
   values,
   Kind,
   Announced,
@@ -37,6 +40,7 @@ use Rattle.paper.specs.TurnedAway.{
   refused,
   accepted,
   Seen,
+  unseen,
   SoFar,
   nothing-read,
   in-order,
@@ -269,3 +273,38 @@ module _ (bytes : List ℕ) (P : SoFar → Type 0)
   pub accepted-keeps : P nothing-read → (c : Contents) → read bytes ≡ accepted c → Ended P c
   unfolding read nothing-read
   accepted-keeps p c e = from bytes 0 nothing-read c refl p e
+
+-- one more at the end of a list
+pub last-of : {A : Type 0} (l : List A) (a d : A) (i : ℕ) → i ≡ length l → getD (l ++ (a ∷ [])) i d ≡ a
+last-of [] a d i e = rw e
+last-of (x ∷ l) a d zero e = absurd (omega arith)
+last-of (x ∷ l) a d (suc i) e = last-of l a d i (omega arith)
+
+-- ---- the end record hands over what was read
+
+abbrev pub taken : SoFar → Contents
+taken so = record { names = so .names; nodes = map (λ (s : Seen). s .node) (so .nodes) }
+
+pub record Closed (so : SoFar) (c : Contents) : Type 0 where
+  pub contents : taken so ≡ c
+  pub some-node : length (so .nodes) ≡ 0 → ⊥
+  pub top : fits condition (getD (so .nodes) (length (so .nodes) - 1) unseen .kind) ≡ true
+  pub all-used : all-below (length (so .nodes) - 1) (so .used) ≡ true
+
+contents-eq : (a b : Contents) → accepted a ≡ accepted b → a ≡ b
+contents-eq a b e = cc
+
+pub closed : (b : List ℕ) (so : SoFar) (c : Contents) → read-end b so ≡ accepted c → Closed so c
+unfolding read-end
+closed b so c e =
+    go (eqb (two-bytes b) (length (so .nodes)) && eqb (length b) 2) (eqb (length (so .nodes)) 0)
+    (fits condition (getD (so .nodes) (length (so .nodes) - 1) unseen .kind)) (all-below (length (so .nodes) - 1) (so .used)) refl refl refl e
+  where
+    go : (x y z u : Bool) → eqb (length (so .nodes)) 0 ≡ y → fits condition (getD (so .nodes) (length (so .nodes) - 1) unseen .kind) ≡ z → all-below (length (so .nodes) - 1) (so .used) ≡ u
+        → pick x (pick (mathlib.Core.Bool.not y && (z && u)) (accepted (taken so)) (refused 13 (so .at))) (refused 12 (so .at)) ≡ accepted c → Closed so c
+    go true false true true p q r e =
+        record { contents = contents-eq (taken so) c e; some-node = λ d. true≢false (sym (eq-eqb (length (so .nodes)) 0 d) ∙ p); top = q; all-used = r }
+    go true true z u p q r e = absurd (refused-accepted 13 (so .at) c e)
+    go true false false u p q r e = absurd (refused-accepted 13 (so .at) c e)
+    go true false true false p q r e = absurd (refused-accepted 13 (so .at) c e)
+    go false y z u p q r e = absurd (refused-accepted 12 (so .at) c e)

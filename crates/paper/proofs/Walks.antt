@@ -79,7 +79,7 @@ forest-same : (f g : Place → List Located) (i : ℕ) (qs : List Place) → All
 forest-same f g i [] a = refl
 forest-same f g i (q ∷ qs) a = ap₂ {C = List Located} _++_ (ap (map (push i)) (a .0)) (forest-same f g (suc i) qs (a .1))
 
-all-map : {A : Type 0} {C D : A → Type 0} → ((a : A) → C a → D a) → (l : List A) → All C l → All D l
+pub all-map : {A : Type 0} {C D : A → Type 0} → ((a : A) → C a → D a) → (l : List A) → All C l → All D l
 all-map f [] p = tt
 all-map f (a ∷ l) p = (f a (p .0), all-map f l (p .1))
 

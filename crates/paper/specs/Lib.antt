@@ -3,6 +3,7 @@ pub mod Sets
 pub mod Record
 pub mod TurnedAway
 pub mod Tree
+pub mod Shape
 pub mod FreeAndRestricted
 pub mod Places
 pub mod Scoping

@@ -1,29 +1,21 @@
 -- Where the nodes and the names of accepted bytes lie: node i is what the record at its start says, and name x the 24 bytes after its kind.
 -- Assumes nothing.
 use mathlib.Core.Path.{_≡_, refl, sym, ap, _∙_, subst}
-use mathlib.Core.Bool.{Bool, true, false, not, _&&_, true≢false}
+use mathlib.Core.Bool.{true, false, true≢false}
 use mathlib.Core.List.{List, [], _∷_, _++_, map}
 use Prim.Native.Nat.{ℕ, zero, suc, _+_, _*_, _-_, _≤_, _<_}
 use native.Mathlib.Omega.{arith}
 use native.Mathlib.Decide.{decLt}
 use native.Mathlib.Numerals.{add-one}
-use lib.Dec.{eqb}
 use lib.ListN.{length, take, drop, getD, length-append, List·getD-append, List·getD-map, length-map}
 use lib.Seq.{drop-drop, getD-drop}
 use Rattle.paper.specs.declared.Node.{Node}
 use Rattle.paper.specs.declared.Node.the-variants.{ListEnd}
-use Rattle.paper.specs.Sets.{all-below}
-use Rattle.paper.specs.Record.{pick, condition, fits, two-bytes, name-bytes, Kind, Announced, format, name, node, announced, body-bytes}
-use Rattle.paper.specs.TurnedAway.{Contents, refused, accepted, read-end, read, Seen, unseen, SoFar, nothing-read, fine, check-all, check-depth}
-use Rattle.paper.proofs.Runs.{Went, went-format, went-name, went-node, seen-node, refused-accepted, Ended, accepted-keeps}
+use Rattle.paper.specs.Record.{name-bytes, Kind, Announced, format, name, node, announced, body-bytes}
+use Rattle.paper.specs.TurnedAway.{Contents, accepted, read, Seen, unseen, SoFar, nothing-read, fine, check-all, check-depth}
+use Rattle.paper.proofs.Runs.{Went, went-format, went-name, went-node, seen-node, last-of, taken, closed, Ended, accepted-keeps}
 use Rattle.nodes.specs.Decoded.{node-read, node-from}
 use Rattle.record.specs.Arena.{start-of}
-
--- one more at the end of a list
-pub last-of : {A : Type 0} (l : List A) (a d : A) (i : ℕ) → i ≡ length l → getD (l ++ (a ∷ [])) i d ≡ a
-last-of [] a d i e = rw e
-last-of (x ∷ l) a d zero e = absurd (omega arith)
-last-of (x ∷ l) a d (suc i) e = last-of l a d i (omega arith)
 
 pub long-by-one : {A : Type 0} (l : List A) (a : A) → length (l ++ (a ∷ [])) ≡ length l + 1
 long-by-one l a = length-append l (a ∷ [])
@@ -112,24 +104,6 @@ module _ (bytes : List ℕ) (k : ℕ) (b : List ℕ) (so : SoFar) (e : k ∷ b �
 
 -- ---- accepted bytes
 
-contents-eq : (a b : Contents) → accepted a ≡ accepted b → a ≡ b
-contents-eq a b e = cc
-
-abbrev taken : SoFar → Contents
-taken so = record { names = so .names; nodes = map (λ (s : Seen). s .node) (so .nodes) }
-
--- the end record hands over what was read
-pub handed : (b : List ℕ) (so : SoFar) (c : Contents) → read-end b so ≡ accepted c → taken so ≡ c
-unfolding read-end
-handed b so c e =
-    go (eqb (two-bytes b) (length (so .nodes)) && eqb (length b) 2)
-    (not (eqb (length (so .nodes)) 0) && (fits condition (getD (so .nodes) (length (so .nodes) - 1) unseen .kind) && all-below (length (so .nodes) - 1) (so .used))) e
-  where
-    go : (x y : Bool) → pick x (pick y (accepted (taken so)) (refused 13 (so .at))) (refused 12 (so .at)) ≡ accepted c → taken so ≡ c
-    go true true e = contents-eq (taken so) c e
-    go true false e = absurd (refused-accepted 13 (so .at) c e)
-    go false y e = absurd (refused-accepted 12 (so .at) c e)
-
 pub record Lies (bytes : List ℕ) (c : Contents) : Type 0 where
   pub node : (i : ℕ) → i < length (c .nodes) → getD (c .nodes) i ListEnd ≡ node-from bytes (start-of bytes (length (c .names)) i)
   pub name : (x : ℕ) → x < length (c .names) → getD (c .names) x [] ≡ take name-bytes (drop (3 + 25 * x) bytes)
@@ -149,4 +123,4 @@ lies-so bytes so p =
 pub lies : (bytes : List ℕ) (c : Contents) → read bytes ≡ accepted c → Lies bytes c
 lies bytes c e =
     let w = accepted-keeps bytes (Reached bytes) (λ k b so next d p w. keeps bytes k b so d p w) (start bytes) c e in
-    subst (λ (z : Contents). Lies bytes z) (handed (w .rest) (w .so) c (w .last)) (lies-so bytes (w .so) (w .holds))
+    subst (λ (z : Contents). Lies bytes z) (closed (w .rest) (w .so) c (w .last) .contents) (lies-so bytes (w .so) (w .holds))

@@ -13,9 +13,9 @@ use Rattle.paper.specs.Sets.{Set, only, _∪_}
 use Rattle.paper.specs.Record.{pick, is-name, precedes, ascii}
 use Rattle.paper.specs.TurnedAway.{SoFar, Step, on, stop, refused, last-name, read-name}
 use Rattle.paper.specs.Scoping.{is-word, is-reserved, reserved}
-use Rattle.paper.proofs.Runs.{after-name}
+use Rattle.paper.proofs.Runs.{after-name, last-of}
 use Rattle.record.specs.Names.{named-in, noted-in}
-use Rattle.record.proofs.Lying.{last-of, long-by-one}
+use Rattle.record.proofs.Lying.{long-by-one}
 
 -- ---- reserved names
 

@@ -43,7 +43,8 @@ use Rattle.paper.specs.TurnedAway.{
   read,
 }
 use Rattle.paper.specs.Scoping.{is-word, is-reserved, reserved}
-use Rattle.paper.proofs.Runs.{after-format, after-name, after-node, seen-node, Went, went, went-at, went-named, went-begun, refused-accepted}
+use Rattle.paper.proofs.Runs.{after-format, after-name, after-node, seen-node, Went, went, went-at, went-named, went-begun, refused-accepted, last-of, closed}
+use Rattle.paper.proofs.WellFormed.{undeep}
 use Rattle.names.specs.Words.{mem}
 use Rattle.names.specs.declared.Names.{Names}
 use Rattle.fields.specs.Rows.{row-for, row-at}
@@ -59,7 +60,7 @@ use Rattle.fields.proofs.FieldLaws.{row-same}
 use Rattle.fields.proofs.KindLaws.{known, row-length, class-format, class-name, class-node}
 use Rattle.record.proofs.HeadLaws.{head, step-bad, step-format, step-name, step-node, step-end}
 use Rattle.record.proofs.EndLaws.{end-said}
-use Rattle.record.proofs.Lying.{Reached, start, keeps, last-of, long-by-one, handed}
+use Rattle.record.proofs.Lying.{Reached, start, keeps, long-by-one}
 use Rattle.record.proofs.NameLaws.{reserved-more, name-step}
 
 -- ---- what the loop's locals say
@@ -110,23 +111,6 @@ put-shows nodes ks ds s h l m =
         ∙ ap f
         (List·getD-eq-default nodes unseen {n = k} (omega arith)
         ∙ sym (List·getD-eq-default (nodes ++ (s ∷ [])) unseen {n = k} (let w = long-by-one nodes s in omega arith)))
-
--- a node that is not too deep
-not-deep : (c : Checked) (d : ℕ) (u : Set) → check-depth c ≡ fine d u → d < 64
-unfolding check-depth
-not-deep (fault n) d u e = absurd (let z : _≡_ {A = ℕ} 0 1 = cc in omega arith)
-not-deep (fine x v) d u e = go (decLt 64 (x + 1)) e
-  where
-    go : Dec (64 < x + 1) → pick (ltb 64 (x + 1)) (fault 10) (fine x v) ≡ fine d u → d < 64
-    go (yes h) e =
-        let q : fault 10 ≡ fine d u = rw (lt-ltb 64 (x + 1) h) at e in absurd (let z : _≡_ {A = ℕ} 0 1 = cc in omega arith)
-    go (no h) e =
-        let q : fine x v ≡ fine d u = rw (le-ltb 64 (x + 1) (omega arith)) at e in
-        let z : x ≡ d = fine-deep x d v u q in
-        omega arith
-      where
-        fine-deep : (x d : ℕ) (v u : Set) → fine x v ≡ fine d u → x ≡ d
-        fine-deep x d v u e = cc
 
 -- ---- one turn
 
@@ -332,7 +316,7 @@ module _ (bytes : List ℕ) (at : ℕ) (begun : Bool) (nn nk : ℕ) (starts : Li
     pub shallow : nk ≤ 512 → row-at kind .class ≡ 3 → checking .fault ≡ 0 → checking .deep < 64
     shallow h c f =
         let w = fine-node h c f in
-        let z : w .deep < 64 = not-deep (check-all (w .row .body) rest (l .so) 0 (l .so .used)) (w .deep) (w .used-by) (w .checked) in
+        let z : w .deep < 64 = undeep (check-all (w .row .body) rest (l .so) 0 (l .so .used)) (w .deep) (w .used-by) (w .checked) .1 in
         let y : checking .deep ≡ w .deep = w .same .1 in
         omega arith
 
@@ -410,7 +394,7 @@ module _ (bytes : List ℕ) (at : ℕ) (begun : Bool) (nn nk : ℕ) (starts : Li
 
     pub end-holds : (r : Reading) → r .arena .starts ≡ starts → r .arena .reserved ≡ words → seen ≡ End → (c : Contents) → read bytes ≡ accepted c → Holds bytes c r
     end-holds r p q e c d =
-        subst (λ (z : Contents). Holds bytes z r) (handed rest (l .so) c (sym (end-is e) ∙ d))
+        subst (λ (z : Contents). Holds bytes z r) (closed rest (l .so) c (sym (end-is e) ∙ d) .contents)
         (record {
           starts =
               λ i h.
