@@ -1,7 +1,7 @@
 -- What holds of every kind of the table, by one computed test over it: its fields make a row, its body has at most 6 bytes, and its row has its number.
 -- Assumes nothing.
 use mathlib.Core.Path.{_≡_, refl, sym, ap, _∙_}
-use mathlib.Core.Bool.{Bool, true, false, _&&_, false≢true}
+use mathlib.Core.Bool.{Bool, true, false, _&&_}
 use mathlib.Core.List.{List, [], _∷_}
 use Prim.Native.Nat.{ℕ, _+_, _≤_}
 use native.Mathlib.Omega.{arith}
@@ -29,14 +29,7 @@ use Rattle.paper.specs.Record.{
 use Rattle.paper.proofs.Fields.{as-node}
 use Rattle.fields.specs.Rows.{range-code, placed, references, row-for}
 use Rattle.fields.proofs.FieldLaws.{Plain, RowLike}
-
-and-left : (a b : Bool) → (a && b) ≡ true → a ≡ true
-and-left true b e = refl
-and-left false b e = absurd (false≢true e)
-
-and-right : (a b : Bool) → (a && b) ≡ true → b ≡ true
-and-right true b e = e
-and-right false b e = absurd (false≢true e)
+use Rattle.fields.proofs.RowLaws.{and-left, and-right}
 
 -- ---- the test
 

@@ -1,5 +1,5 @@
 -- The table of kinds as the code looks it up: a row of small numbers for each kind byte, made from the definitions' table. Assumes nothing: these are definitions.
-use Prim.Native.Nat.{ℕ, zero, suc, _+_}
+use Prim.Native.Nat.{ℕ, zero, suc, _+_, _/_, _%_}
 use mathlib.Core.Bool.{Bool, true, false}
 use mathlib.Core.List.{List, [], _∷_, _++_}
 use lib.Dec.{eqb}
@@ -100,3 +100,17 @@ row-for (node r) =
 
 unfoldable pub row-at : ℕ → Row
 row-at k = row-for (announced k)
+
+-- ---- a row in one number
+
+abbrev pub unpacked : ℕ → Row
+unpacked x =
+    record {
+      class = x % 8;
+      len = x / 8 % 32;
+      range = x / 256 % 8;
+      sort1 = x / 2048 % 8;
+      at1 = x / 16384 % 8;
+      sort2 = x / 131072 % 8;
+      at2 = x / 1048576 % 8;
+    }
