@@ -1,16 +1,16 @@
 -- Two names walked together: their order, and when they are the same; and a reserved word as a name, its padding written out. Assumes nothing.
 use mathlib.Core.Path.{_≡_, refl, sym, ap₂, _∙_}
-use mathlib.Core.Bool.{Bool, true, false, _&&_, or-false}
+use mathlib.Core.Bool.{Bool, true, false, _&&_, _||_, or-false}
 use mathlib.Core.List.{List, [], _∷_, _++_}
 use Prim.Native.Nat.{ℕ, zero, suc, _+_, _≤_, _<_}
 use native.Mathlib.Numerals.{add-one}
 use native.Mathlib.Omega.{arith}
-use borrow.Author.Tests.{eqb-true, le-ltb}
+use borrow.Author.Tests.{eqb-true, eqb-false, ne-eqb, le-ltb}
 use lib.Dec.{eqb, ltb, eqb·zero-suc, eqb·suc-zero}
 use lib.ListN.{length, getD, drop, drop-of-length-le, replicate}
 use lib.Seq.{drop-cons}
-use Rattle.paper.specs.Record.{zeros, precedes}
-use Rattle.paper.specs.Scoping.{is-word}
+use Rattle.paper.specs.Record.{zeros, precedes, ascii}
+use Rattle.paper.specs.Scoping.{is-word, is-reserved}
 use Rattle.words.specs.Same.{same}
 
 module _ (a b : List ℕ) (i : ℕ) (ha : i < length a) (hb : i < length b) where
@@ -59,3 +59,24 @@ same-word (x ∷ word) k (y ∷ n) h = go (eqb x y) (same-word word k n (omega a
         → (b && same (word ++ replicate k 0) n) ≡ elim b [ true ↦ is-word word n | false ↦ false ]
     go true e = e
     go false e = refl
+
+-- ---- a name that begins as no reserved word does
+
+neither : (a b : Bool) → (a || b) ≡ false → (a ≡ false) × (b ≡ false)
+neither true b e = let z : _≡_ {A = ℕ} 0 1 = cc in absurd (omega arith)
+neither false b e = (refl, e)
+
+other-word : (x : ℕ) (word : List ℕ) (y : ℕ) (n : List ℕ) → eqb y x ≡ false → is-word (x ∷ word) (y ∷ n) ≡ false
+unfolding is-word
+other-word x word y n t = rw (is-word, ne-eqb x y (λ e. eqb-false y x t (sym e)))
+
+pub not-reserved : (n : List ℕ) → 0 < length n
+    → (eqb (getD n 0 0) 112 || (eqb (getD n 0 0) 97 || (eqb (getD n 0 0) 114 || eqb (getD n 0 0) 99))) ≡ false
+    → is-reserved n ≡ false
+unfolding is-reserved ascii
+not-reserved [] h t = absurd (omega arith)
+not-reserved (y ∷ n) h t =
+    let p = neither _ _ t in
+    let a = neither _ _ (p .1) in
+    let r = neither _ _ (a .1) in
+    ap₂ _||_ (other-word 112 _ y n (p .0)) (ap₂ _||_ (other-word 97 _ y n (a .0)) (ap₂ _||_ (other-word 114 _ y n (r .0)) (other-word 99 _ y n (r .1))))

@@ -91,9 +91,14 @@ fn same(a: [u8; 24], b: [u8; 24]) -> bool
     ok
 }
 
+// Whether a name is one of the four words. Few begin as one of them does, so that most are told by their first byte.
 pub fn is_reserved(n: [u8; 24]) -> bool
     ensures { λ r. ⌜ r ≡ is-reservedᵈ n ⌝ }
 {
+    let first = n[0];
+    if !((first == b'p') | ((first == b'a') | ((first == b'r') | (first == b'c')))) {
+        return false;
+    }
     same(PRINCIPAL, n) | (same(ACTION, n) | (same(RESOURCE, n) | same(CONTEXT, n)))
 }
 
