@@ -1,5 +1,7 @@
 //! The proved library, behind safe functions.
 
+pub mod records;
+
 /// The refusal's number, or 0; how many names were read; and how many nodes, or the refusal's offset.
 #[repr(C)]
 #[derive(Debug, Clone, Copy, PartialEq, Eq)]

@@ -1,8 +1,10 @@
 //! `compare N SEED`: N random, damaged and short inputs through the proved reader and the plain second one.
 
 use std::env;
+use std::hint::black_box;
 use std::process::ExitCode;
 
+use linked::records::{balanced, chain};
 use linked::{name_length, plain_name_length, plain_read, read};
 use plain::random::{damaged, noise, record, Rng};
 
@@ -41,6 +43,9 @@ fn arguments() -> Option<(usize, u64)> {
 }
 
 fn input(rng: &mut Rng) -> Vec<u8> {
+    if rng.one_in(100) {
+        return about_the_limits(rng);
+    }
     let size = 1 + rng.below(60);
     match rng.below(4) {
         0 => record(rng, size),
@@ -52,7 +57,20 @@ fn input(rng: &mut Rng) -> Vec<u8> {
     }
 }
 
+fn about_the_limits(rng: &mut Rng) -> Vec<u8> {
+    let names = 124 + rng.below(8);
+    let good = match rng.below(2) {
+        0 => chain(names, 60 + rng.below(8)),
+        _ => balanced(names, 507 + 2 * rng.below(5)),
+    };
+    match rng.below(4) {
+        0 => damaged(rng, &good),
+        _ => good,
+    }
+}
+
 fn difference(bytes: &[u8], number: u8) -> Option<String> {
+    let before = bytes.to_vec();
     let (said, expected) = (read(bytes), plain_read(bytes));
     if said != expected {
         return Some(format!(
@@ -60,6 +78,10 @@ fn difference(bytes: &[u8], number: u8) -> Option<String> {
         ));
     }
     let (said, expected) = (name_length(bytes, number), plain_name_length(bytes, number));
-    (said != expected)
-        .then(|| format!("name {number} has {said} bytes, and {expected} by the plain reader"))
+    if said != expected {
+        return Some(format!(
+            "name {number} has {said} bytes, and {expected} by the plain reader"
+        ));
+    }
+    (black_box(bytes) != before).then(|| format!("the input was written to; it was {before:02X?}"))
 }
