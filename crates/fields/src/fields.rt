@@ -113,6 +113,16 @@ pub fn range_bad(range: u8, x: u8, y: u8, names: usize) -> bool
                 | ((range == 4) & ((2 < x) | ((x == 0) & (names <= wide(y)))))))
 }
 
+// The same of a record's first bytes. Most records have no such field: of those no byte is read.
+pub fn first_bad(b: &[u8], range: u8, names: usize) -> bool
+    ensures { λ r. ⌜ r ≡ out-of-range range (getD (now (b .entry)) 0 0) (getD (now (b .entry)) 1 0) names ⌝ }
+{
+    if range == 0 {
+        return false;
+    }
+    range_bad(range, byte(b, 0), byte(b, 1), names)
+}
+
 // The fields of a record in order, and then its depth: 10 where a child has 64 already.
 pub fn checked<'a>(
     b: &[u8],
@@ -126,7 +136,7 @@ pub fn checked<'a>(
     requires { ⌜ own < 512 ⌝ }
     ensures { λ r. ⌜ told r (now (used .exit)) ≡ checked-in (now (kinds .entry)) (now (depths .entry)) (now (b .entry)) row names own (now (used .entry)) ⌝ }
 {
-    if range_bad(row.range, byte(b, 0), byte(b, 1), names) {
+    if first_bad(b, row.range, names) {
         return Told { fault: 7, deep: 0 };
     }
     let one = refer_at(b, row.sort1, row.at1, own, kinds, depths, used, 0);

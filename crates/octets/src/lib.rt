@@ -16,11 +16,22 @@ pub fn byte_after(b: &[u8], i: usize) -> u8
     if i < b.len() { byte(b, i + 1) } else { 0 }
 }
 
-// The two bytes at a place, the low one first.
+fn joined(low: u8, high: u8) -> u16
+    ensures { λ r. ⌜ r ≡ low + 256 * high ⌝ }
+{
+    (low as u16) + 256 * (high as u16)
+}
+
+// The two bytes at a place, the low one first. Of a place that the caller keeps small the compiler leaves one test where both bytes are there.
 pub fn number(b: &[u8], i: usize) -> u16
     ensures { λ r. ⌜ r ≡ getD (now (b .entry)) i 0 + 256 * getD (now (b .entry)) (i + 1) 0 ⌝ }
 {
-    (byte(b, i) as u16) + 256 * (byte_after(b, i) as u16)
+    if i < 65535 {
+        if i + 1 < b.len() {
+            return joined(b[i], b[i + 1]);
+        }
+    }
+    joined(byte(b, i), byte_after(b, i))
 }
 
 // The bytes from a place on.
