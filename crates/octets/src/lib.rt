@@ -41,14 +41,14 @@ pub fn tail(b: &[u8], i: usize) -> &[u8]
     if i <= b.len() { &b[i..] } else { &b[b.len()..] }
 }
 
-pub fn wide(x: u8) -> usize
-    ensures { λ r. ⌜ r ≡ x ⌝ }
+pub fn wide(byte: u8) -> usize
+    ensures { λ r. ⌜ r ≡ byte ⌝ }
 {
-    x as usize
+    byte as usize
 }
 
-pub fn long(x: u16) -> usize
-    ensures { λ r. ⌜ (r ≡ x) × (r < 65536) ⌝ }
+pub fn long(number: u16) -> usize
+    ensures { λ r. ⌜ (r ≡ number) × (r < 65536) ⌝ }
 {
-    x as usize
+    number as usize
 }
