@@ -5,34 +5,62 @@ use std::time::Instant;
 
 use linked::read;
 use linked::records::balanced;
+use plain::random::{record, Rng};
 
 const RUNS: usize = 15;
-const READS: usize = 2000;
+const READS: usize = 500;
+const MIXED: usize = 200;
 
 fn main() {
-    let small = nanoseconds(&balanced(0, 1));
-    let names = (nanoseconds(&balanced(128, 1)) - small) / 128.0;
-    let nodes = (nanoseconds(&balanced(0, 511)) - small) / 510.0;
-    println!("fixed {small:.0} ns, a name {names:.1} ns, a node {nodes:.1} ns");
+    let fixed = again(&balanced(0, 1));
+    let name = (again(&balanced(128, 1)) - fixed) / 128.0;
+    let node = (again(&balanced(0, 511)) - fixed) / 510.0;
+    println!("fixed {fixed:.0} ns, a name {name:.1} ns, a node of two kinds {node:.1} ns");
+    among_all_kinds(fixed, name);
     for (names, nodes) in [(10, 15), (63, 229), (128, 511)] {
         let bytes = balanced(names, nodes);
         println!(
             "{names} names and {nodes} nodes, {} bytes: {:.2} microseconds",
             bytes.len(),
-            nanoseconds(&bytes) / 1000.0
+            again(&bytes) / 1000.0
         );
     }
 }
 
-fn nanoseconds(bytes: &[u8]) -> f64 {
-    assert_eq!(read(bytes).number, 0, "what is measured is read");
-    (0..RUNS).map(|_| one_run(bytes)).fold(f64::MAX, f64::min)
+/// Random records, each again and again, and then one after the other, where the processor can't have learnt a record's branches.
+fn among_all_kinds(fixed: f64, name: f64) {
+    let mut rng = Rng::new(1);
+    let records: Vec<_> = (0..MIXED).map(|_| record(&mut rng, 400)).collect();
+    let names: usize = records.iter().map(|bytes| read(bytes).names).sum();
+    let nodes: usize = records.iter().map(|bytes| read(bytes).place).sum();
+    let a_node = |all: f64| (all - fixed * MIXED as f64 - name * names as f64) / nodes as f64;
+    println!(
+        "a node of all kinds {:.1} ns, {:.1} ns in a record seen for the first time",
+        a_node(records.iter().map(|bytes| again(bytes)).sum()),
+        a_node(best(|| {
+            for bytes in &records {
+                black_box(read(black_box(bytes)));
+            }
+        }))
+    );
 }
 
-fn one_run(bytes: &[u8]) -> f64 {
-    let start = Instant::now();
-    for _ in 0..READS {
-        black_box(read(black_box(bytes)));
-    }
-    start.elapsed().as_nanos() as f64 / READS as f64
+fn again(bytes: &[u8]) -> f64 {
+    assert_eq!(read(bytes).number, 0, "what is measured is read");
+    let all = best(|| {
+        for _ in 0..READS {
+            black_box(read(black_box(bytes)));
+        }
+    });
+    all / READS as f64
+}
+
+fn best(run: impl Fn()) -> f64 {
+    (0..RUNS)
+        .map(|_| {
+            let start = Instant::now();
+            run();
+            start.elapsed().as_nanos() as f64
+        })
+        .fold(f64::MAX, f64::min)
 }
