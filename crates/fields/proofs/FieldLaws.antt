@@ -1,52 +1,19 @@
 -- The fields of a node by its row, over the arrays, say what the definitions say of its fields in order, over the growing lists. Assumes nothing.
-use mathlib.Core.Path.{_≡_, refl, sym, ap, ap₂, _∙_, subst}
+use mathlib.Core.Path.{_≡_, refl, sym, ap, _∙_, subst}
 use mathlib.Core.Bool.{Bool, true, false, not, _&&_, _||_, false≢true, true≢false}
 use mathlib.Core.List.{List, [], _∷_, _++_}
-use Prim.Native.Nat.{ℕ, zero, suc, _+_, _*_, _<_, _≤_, max}
+use Prim.Native.Nat.{ℕ, suc, _+_, _*_, _<_, _≤_, max}
 use native.Mathlib.Omega.{arith}
 use native.Mathlib.Decide.{decLt, ℕ-discrete}
 use lib.Dec.{eqb, leb, ltb}
 use lib.ListN.{length, getD, drop, set, length-set}
 use lib.Seq.{getD-drop, getD-set-same, getD-set-other, drop-drop}
 use native.Mathlib.Nat.{add-zero}
-use borrow.Author.Tests.{eq-eqb, ne-eqb, lt-ltb, le-ltb, le-leb, lt-leb, ltb-true, ltb-false, leb-true, leb-false, eqb-true}
+use borrow.Author.Tests.{eq-eqb, ne-eqb, lt-ltb, le-ltb, le-leb, lt-leb}
 use Rattle.paper.specs.Sets.{Set, only, _∪_}
-use Rattle.paper.specs.Record.{
-  pick,
-  byte,
-  second,
-  Sort,
-  condition,
-  term,
-  arguments,
-  items,
-  binders,
-  fits,
-  two-bytes,
-  Field,
-  to,
-  name-number,
-  symbol,
-  octet,
-  comparison-op,
-  arith-op,
-  slot,
-  field-bytes,
-  body-length,
-  Kind,
-  kinds,
-  slot-of,
-  Announced,
-  format,
-  name,
-  end,
-  unknown,
-  node,
-  node-kind,
-  announced,
-}
+use Rattle.paper.specs.Record.{pick, byte, second, Sort, condition, term, arguments, items, binders, fits, two-bytes, Field, to, name-number, symbol, octet, comparison-op, arith-op, slot, field-bytes, Kind, node}
 use Rattle.paper.specs.TurnedAway.{Seen, unseen, SoFar, Checked, fault, fine, refer, in-range, check, check-all, check-depth}
-use Rattle.fields.specs.Rows.{sort-code, range-code, placed, references, reference, first-range, row-for, row-at}
+use Rattle.fields.specs.Rows.{sort-code, range-code, placed, references, first-range, row-for}
 use Rattle.fields.specs.Memory.{
   Marks,
   Shows,
@@ -60,7 +27,6 @@ use Rattle.fields.specs.Memory.{
   after,
   checked-in,
 }
-use Rattle.fields.specs.declared.rows.Row.{Row}
 
 -- ---- one reference
 

@@ -7,7 +7,7 @@ use native.Mathlib.Omega.{arith}
 use borrow.Author.Tests.{ne-eqb, leb-true}
 use lib.Dec.{leb}
 use lib.ListN.{getD, List·getD-map}
-use Rattle.paper.specs.Record.{field-bytes, body-length, Kind, kinds, Announced, unknown, node-kind, announced, slot-of}
+use Rattle.paper.specs.Record.{field-bytes, body-length, Kind, kinds, unknown, node-kind, announced, slot-of}
 use Rattle.fields.specs.Rows.{placed, references, first-range, row-for, row-at, unpacked}
 use Rattle.fields.specs.declared.rows.Row.{Row}
 

@@ -3,7 +3,7 @@ use mathlib.Core.Path.{_≡_, refl, sym, ap, ap₂, _∙_, fun-ext, subst}
 use mathlib.Core.Bool.{Bool, true, false, cond, not, _&&_, _||_, false≢true}
 use Prim.Native.Nat.{ℕ, zero, suc, _+_, _-_, _*_, _/_, _%_, _^_, _≤_, _<_}
 use native.Mathlib.Numerals.{add-one}
-use native.Mathlib.Nat.{lt-of-lt-of-le, lt-of-le-of-lt, le-of-eq, zero-div, zero-mod, mod-lt, zero-lt-suc, not-suc-le-zero, le-of-suc-le-suc, div-eq-of-lt, mul-mod-left, pow-suc, one-mul}
+use native.Mathlib.Nat.{lt-of-lt-of-le, lt-of-le-of-lt, le-of-eq, zero-div, mod-lt, zero-lt-suc, not-suc-le-zero, le-of-suc-le-suc, div-eq-of-lt, mul-mod-left, pow-suc, one-mul}
 use native.Mathlib.Omega.{arith}
 use native.Mathlib.Decide.{ℕ-discrete, decLt}
 use lib.Dec.{eqb, ltb, lit<}

@@ -1,12 +1,11 @@
 -- The least name of a set: the first of its members. Assumes nothing.
 use mathlib.Core.Path.{_≡_, refl, sym, ap, _∙_}
-use mathlib.Core.Bool.{Bool, true, false, cond}
+use mathlib.Core.Bool.{true, false, cond}
 use mathlib.Core.List.{List, [], _∷_, _++_}
 use Prim.Native.Nat.{ℕ, zero, suc, _<_, _≤_}
 use native.Mathlib.Omega.{arith}
 use native.Mathlib.Decide.{decLt}
-use Rattle.paper.specs.declared.Subject.{Subject}
-use Rattle.paper.specs.declared.Subject.the-variants.{Name, NoName}
+use Rattle.paper.specs.declared.Subject.the-variants.{Name}
 use Rattle.paper.specs.Record.{name-no}
 use Rattle.paper.specs.Sets.{Set, members}
 use Rattle.names.specs.Words.{first}

@@ -1,58 +1,22 @@
 -- Each part of the list holds exactly what is unmet by the path definition, each once, in document order, and no other list does. Assumes nothing.
 use mathlib.Core.Path.{_≡_, refl, sym, ap, _∙_, subst}
-use mathlib.Core.Bool.{Bool, true, false, _||_, false≢true, true≢false}
-use mathlib.Core.List.{List, [], _∷_, map, map-map, List·Memᴰ, List·Memᴰ·not-nil, List·Memᴰ·cases-cons, Memᴰ·map, Memᴰ·of-map, Memᴰ·cast}
+use mathlib.Core.Bool.{Bool, true, false, _||_, true≢false}
+use mathlib.Core.List.{List, [], _∷_, map, map-map, List·Memᴰ·not-nil, List·Memᴰ·cases-cons, Memᴰ·map, Memᴰ·of-map, Memᴰ·cast}
 use mathlib.Core.Logic.{inr, ⊎-elim}
 use Prim.Native.Nat.{ℕ, _+_, _<_}
 use native.Mathlib.Omega.{arith}
-use lib.Dec.{lit<}
-use Rattle.paper.specs.declared.Finding.{Finding}
 use Rattle.paper.specs.declared.Tied.{Tied}
 use Rattle.paper.specs.declared.Tied.the-variants.{Left, Right, Neither}
 use Rattle.paper.specs.Record.{pick}
 use Rattle.paper.specs.Sets.{Set, none}
 use Rattle.paper.specs.TurnedAway.{Contents}
-use Rattle.paper.specs.Tree.{
-  Condition,
-  Term,
-  Arguments,
-  Items,
-  Binders,
-  root,
-  size,
-  term-size,
-  arguments-size,
-  items-size,
-  binders-size,
-}
+use Rattle.paper.specs.Tree.{Condition, Term, Arguments, Items, root, size, term-size, arguments-size, items-size}
 use Rattle.paper.specs.Tree.Condition.{And, Or, Not, Past, Since, Exists, Comparison, Predicate, Refine, Tp, Opaque}
 use Rattle.paper.specs.Tree.Term.{Var, Wildcard, Value, Sigil, Array, Arith, Sum, Count, AggregateCall}
 use Rattle.paper.specs.Tree.Arguments.{no-argument, argument}
 use Rattle.paper.specs.Tree.Items.{no-item, item}
 use Rattle.paper.specs.FreeAndRestricted.{is-sigil, tied, holds-sigil}
-use Rattle.paper.specs.Places.{
-  Spot,
-  condition,
-  operand,
-  searched,
-  searched-arguments,
-  searched-items,
-  Place,
-  asked-at,
-  nowhere,
-  Entry,
-  Broken,
-  Unmet,
-  Breaks,
-  Located,
-  Earlier,
-  Precedes,
-  Ascending,
-  Exactly,
-  findings,
-  spot-size,
-  found,
-}
+use Rattle.paper.specs.Places.{Spot, condition, operand, searched, searched-arguments, searched-items, Place, asked-at, Entry, Broken, Unmet, Located, Earlier, Precedes, Exactly, findings, spot-size, found}
 use Rattle.paper.specs.Scoping.{reserved, binder-sigil, scope-below, scope-broken, ScopingUnmet, scoping-part}
 use Rattle.paper.specs.Demands.{
   closedness-broken,
@@ -64,7 +28,7 @@ use Rattle.paper.specs.Demands.{
   DemandUnmet,
   demands-part,
 }
-use Rattle.paper.proofs.Ascending.{asc-map, exactly-one}
+use Rattle.paper.proofs.Ascending.{asc-map}
 use Rattle.paper.proofs.Entries.{entries, entries-get, entries-put, entries-asc, entries-findings, ByRule, rule-of}
 use Rattle.paper.proofs.Walks.{All, extent, found-exactly}
 

@@ -2,53 +2,16 @@
 use mathlib.Core.Path.{_≡_, refl, sym, ap, _∙_, subst}
 use mathlib.Core.Bool.{Bool, true, false, not, _&&_, _||_, true≢false}
 use mathlib.Core.List.{List, [], _∷_, _++_}
-use Prim.Native.Nat.{ℕ, zero, suc, _+_, _<_, _≤_, max}
+use Prim.Native.Nat.{ℕ, suc, _+_, _<_, _≤_, max}
 use native.Mathlib.Nat.{le-of-eq}
 use native.Mathlib.Omega.{arith}
-use native.Mathlib.Decide.{decLt}
 use lib.Dec.{eqb, leb, ltb}
 use lib.ListN.{length, getD, drop}
-use borrow.Author.Tests.{eqb-true, leb-true, ltb-true}
-use Rattle.paper.specs.declared.Slot.{Slot}
+use borrow.Author.Tests.{ltb-true}
 use Rattle.paper.specs.declared.Slot.the-variants.{Name, Param, Binder}
 use Rattle.paper.specs.Sets.{Set, only, _∪_}
-use Rattle.paper.specs.Record.{
-  pick,
-  byte,
-  second,
-  two-bytes,
-  Sort,
-  condition,
-  term,
-  arguments,
-  items,
-  binders,
-  fits,
-  Field,
-  to,
-  name-number,
-  symbol,
-  octet,
-  comparison-op,
-  arith-op,
-  slot,
-  field-bytes,
-  value,
-  values,
-  slot-of,
-  name-no,
-  Kind,
-  kinds,
-  Announced,
-  format,
-  name,
-  end,
-  unknown,
-  node,
-  node-kind,
-  announced,
-}
-use Rattle.paper.specs.TurnedAway.{Seen, unseen, SoFar, Checked, fault, fine, refer, in-range, check, check-all, check-depth}
+use Rattle.paper.specs.Record.{pick, byte, second, two-bytes, Sort, condition, term, arguments, items, binders, fits, Field, to, name-number, symbol, octet, comparison-op, arith-op, slot, field-bytes, value, values, slot-of, name-no, Kind, kinds, format, name, end, node, node-kind, announced}
+use Rattle.paper.specs.TurnedAway.{Seen, unseen, SoFar, Checked, fault, fine, refer, in-range, check, check-all}
 use Rattle.paper.specs.declared.NodeNo.{NodeNo}
 use Rattle.paper.specs.Tree.{Tree, planted}
 use Rattle.paper.specs.Shape.{references, slot-names, names-in}

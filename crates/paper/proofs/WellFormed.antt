@@ -1,43 +1,28 @@
 -- What every walk over accepted bytes may count on: each reference is below its node and of its sort, each name is in the table, no node is deeper than 64,
 -- and the root's tree has every node exactly once. Assumes nothing.
-use mathlib.Core.Path.{_≡_, refl, sym, ap, ap₂, _∙_, subst, fun-ext}
-use mathlib.Core.Bool.{Bool, true, false, not, _&&_, _||_, true≢false}
+use mathlib.Core.Path.{_≡_, refl, sym, ap, _∙_, subst, fun-ext}
+use mathlib.Core.Bool.{Bool, true, false, _&&_, _||_, true≢false}
 use mathlib.Core.List.{List, [], _∷_, _++_, map, map-append}
 use Prim.Native.Nat.{ℕ, zero, suc, _+_, _-_, _<_, _≤_}
 use native.Mathlib.Omega.{arith}
 use native.Mathlib.Decide.{decLt}
 use native.Mathlib.Numerals.{add-one}
 use lib.Dec.{eqb, ltb}
-use lib.ListN.{length, getD, drop, length-append, List·getD-append, List·getD-map, length-map}
+use lib.ListN.{length, getD, drop, length-append, List·getD-append, length-map}
 use borrow.Author.Tests.{eq-eqb, ne-eqb, lt-ltb, le-ltb}
 use Rattle.paper.specs.declared.Node.{Node}
 use Rattle.paper.specs.declared.Node.the-variants.{ListEnd}
-use Rattle.paper.specs.Sets.{Set, none, only, _∪_, all-below}
-use Rattle.paper.specs.Record.{pick, Sort, condition, fits, two-bytes, values, Kind, node, announced, node-no}
-use Rattle.paper.specs.TurnedAway.{
-  Contents,
-  refused,
-  accepted,
-  read,
-  Seen,
-  unseen,
-  SoFar,
-  nothing-read,
-  Checked,
-  fault,
-  fine,
-  check-all,
-  check-depth,
-  read-end,
-}
+use Rattle.paper.specs.Sets.{Set, none, only, _∪_}
+use Rattle.paper.specs.Record.{pick, Sort, condition, fits, values, Kind, node, announced, node-no}
+use Rattle.paper.specs.TurnedAway.{Contents, accepted, read, Seen, unseen, SoFar, nothing-read, Checked, fault, fine, check-all, check-depth}
 use Rattle.paper.specs.Tree.{Tree, as-condition, planted, trees, tree-at, root-no, root, size}
 use Rattle.paper.specs.Shape.{references, names-in}
 use Rattle.paper.proofs.SetLaws.{all-get}
 use Rattle.paper.proofs.Walks.{All, all-map}
-use Rattle.paper.proofs.Runs.{Went, went-format, went-name, went-node, seen-node, last-of, taken, Closed, closed, Ended, accepted-keeps}
-use Rattle.paper.proofs.Fields.{New, Into, says, for-sort, Passed, passed, field-references, field-names}
+use Rattle.paper.proofs.Runs.{Went, went-format, went-name, went-node, seen-node, last-of, taken, Closed, closed, accepted-keeps}
+use Rattle.paper.proofs.Fields.{New, Into, says, for-sort, Passed, passed, field-references}
 use Rattle.paper.proofs.Weights.{weigh, one, size-weighs, tree-weight, weight-as, of-sort, at-home, total, planted-weighs}
-use Rattle.paper.proofs.Forests.{tree-step, tree-same, tree-more, trees-more, sum, spare, spare-same, spare-last, weight-at, Home, new-total}
+use Rattle.paper.proofs.Forests.{tree-step, tree-more, trees-more, sum, spare, spare-same, spare-last, weight-at, Home, new-total}
 
 abbrev said : List Seen → List Node
 said nodes = map (λ (s : Seen). s .node) nodes

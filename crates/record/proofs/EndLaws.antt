@@ -1,18 +1,16 @@
 -- The end record over the arrays says what the definitions say of it. Assumes nothing.
-use mathlib.Core.Path.{_≡_, refl, sym, ap, ap₂, _∙_}
+use mathlib.Core.Path.{_≡_, refl, ap₂, _∙_}
 use mathlib.Core.Bool.{Bool, true, false, not, _&&_, and-false}
-use mathlib.Core.List.{List, map}
+use mathlib.Core.List.{List}
 use Prim.Native.Nat.{ℕ, zero, suc, _+_, _-_, _<_, _≤_}
 use native.Mathlib.Omega.{arith}
 use native.Mathlib.Decide.{decLt}
 use native.Mathlib.Numerals.{add-one}
 use lib.Dec.{eqb}
 use lib.ListN.{length, getD, length-map}
-use Rattle.paper.specs.declared.Verdict.{Verdict}
-use Rattle.paper.specs.declared.Verdict.the-variants.{Counts, Refused}
 use Rattle.paper.specs.Sets.{Set, all-below}
 use Rattle.paper.specs.Record.{pick, condition, fits, two-bytes}
-use Rattle.paper.specs.TurnedAway.{Seen, unseen, SoFar, Outcome, refused, accepted, Contents, verdict, read-end}
+use Rattle.paper.specs.TurnedAway.{Seen, unseen, SoFar, Outcome, verdict, read-end}
 use Rattle.fields.specs.Memory.{Marks, Shows}
 use Rattle.record.specs.Ends.{marks, rooted-in, ended-in}
 

@@ -6,26 +6,11 @@ use Prim.Native.Nat.{ℕ}
 use lib.Dec.{eqb, leb}
 use lib.ListN.{length, take}
 use Rattle.paper.specs.Record.{pick, Kind, Announced, format, name, end, unknown, node, announced, body-bytes}
-use Rattle.paper.specs.TurnedAway.{
-  SoFar,
-  in-order,
-  full,
-  Step,
-  on,
-  stop,
-  refused,
-  read-format,
-  read-name,
-  read-node,
-  read-end,
-  read-body,
-  read-record,
-}
+use Rattle.paper.specs.TurnedAway.{SoFar, in-order, full, Step, stop, refused, read-format, read-name, read-node, read-end, read-body, read-record}
 use Rattle.fields.specs.Rows.{row-for, row-at}
 use Rattle.record.specs.Heads.{order-by, full-by, head-at, head-by}
 use Rattle.record.specs.declared.heads.Head.{Head}
 use Rattle.record.specs.declared.heads.Head.the-variants.{Bad, Format, Name, Node, End}
-use Rattle.fields.proofs.KindLaws.{row-length}
 
 module _ (b : List ℕ) (so : SoFar) where
   by-head : Head → Announced → Step

@@ -2,18 +2,17 @@
 -- Assumes nothing.
 use mathlib.Core.Path.{_≡_, refl, sym, ap, _∙_, subst}
 use mathlib.Core.Bool.{true, false, true≢false}
-use mathlib.Core.List.{List, [], _∷_, _++_, map}
-use Prim.Native.Nat.{ℕ, zero, suc, _+_, _*_, _-_, _≤_, _<_}
+use mathlib.Core.List.{List, [], _∷_, _++_}
+use Prim.Native.Nat.{ℕ, _+_, _*_, _-_, _≤_, _<_}
 use native.Mathlib.Omega.{arith}
 use native.Mathlib.Decide.{decLt}
 use native.Mathlib.Numerals.{add-one}
 use lib.ListN.{length, take, drop, getD, length-append, List·getD-append, List·getD-map, length-map}
 use lib.Seq.{drop-drop, getD-drop}
-use Rattle.paper.specs.declared.Node.{Node}
 use Rattle.paper.specs.declared.Node.the-variants.{ListEnd}
-use Rattle.paper.specs.Record.{name-bytes, Kind, Announced, format, name, node, announced, body-bytes}
-use Rattle.paper.specs.TurnedAway.{Contents, accepted, read, Seen, unseen, SoFar, nothing-read, fine, check-all, check-depth}
-use Rattle.paper.proofs.Runs.{Went, went-format, went-name, went-node, seen-node, last-of, taken, closed, Ended, accepted-keeps}
+use Rattle.paper.specs.Record.{name-bytes, name, node}
+use Rattle.paper.specs.TurnedAway.{Contents, accepted, read, Seen, unseen, SoFar, nothing-read}
+use Rattle.paper.proofs.Runs.{Went, went-format, went-name, went-node, seen-node, last-of, taken, closed, accepted-keeps}
 use Rattle.nodes.specs.Decoded.{node-read, node-from}
 use Rattle.record.specs.Arena.{start-of}
 

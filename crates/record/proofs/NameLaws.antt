@@ -1,5 +1,5 @@
 -- A new name over the reader's table says what the definitions say of it over the names read so far. Assumes nothing.
-use mathlib.Core.Path.{_≡_, refl, sym, ap, ap₂, _∙_, fun-ext}
+use mathlib.Core.Path.{_≡_, refl, sym, ap, _∙_, fun-ext}
 use mathlib.Core.Bool.{Bool, true, false, _&&_, _||_, and-true, and-false, or-false, false≢true}
 use mathlib.Core.List.{List, [], _∷_, _++_}
 use Prim.Native.Nat.{ℕ, zero, suc, _+_, _-_, _≤_, _<_}
@@ -11,7 +11,7 @@ use lib.Seq.{getD-take}
 use borrow.Author.Tests.{eq-eqb, ne-eqb}
 use Rattle.paper.specs.Sets.{Set, only, _∪_}
 use Rattle.paper.specs.Record.{pick, is-name, precedes, ascii}
-use Rattle.paper.specs.TurnedAway.{SoFar, Step, on, stop, refused, last-name, read-name}
+use Rattle.paper.specs.TurnedAway.{SoFar, on, stop, refused, last-name, read-name}
 use Rattle.paper.specs.Scoping.{is-word, is-reserved, reserved}
 use Rattle.paper.proofs.Runs.{after-name, last-of}
 use Rattle.record.specs.Names.{named-in, noted-in}

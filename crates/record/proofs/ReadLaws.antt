@@ -1,54 +1,27 @@
 -- One turn of the reader's loop: what its arrays say of the records read so far, and how each kind of record takes that on or ends the reading.
 -- Assumes nothing.
 use mathlib.Core.Path.{_≡_, refl, sym, ap, ap₂, _∙_, subst}
-use mathlib.Core.Bool.{Bool, true, false, not, true≢false}
-use mathlib.Core.List.{List, [], _∷_, _++_, map}
+use mathlib.Core.Bool.{Bool, true, false, not}
+use mathlib.Core.List.{List, [], _∷_, _++_}
 use Prim.Native.Nat.{ℕ, zero, suc, _+_, _*_, _-_, _≤_, _<_}
 use native.Mathlib.Omega.{arith}
 use native.Mathlib.Decide.{decLt, ℕ-discrete}
 use native.Mathlib.Numerals.{add-one}
-use lib.Dec.{eqb, leb, ltb}
+use lib.Dec.{eqb}
 use lib.ListN.{length, take, drop, getD, set, replicate, length-set, drop-of-length-le, List·getD-append, List·getD-eq-default, length-map}
 use lib.Seq.{drop-cons, drop-drop, take-suc-set, getD-set-same, getD-set-other}
-use borrow.Author.Tests.{eq-eqb, ne-eqb, eqb-true, lt-ltb, le-ltb}
-use Rattle.paper.specs.declared.Verdict.{Verdict}
-use Rattle.paper.specs.declared.Verdict.the-variants.{Counts, Refused}
+use borrow.Author.Tests.{eq-eqb, ne-eqb}
+use Rattle.paper.specs.declared.Verdict.the-variants.{Refused}
 use Rattle.paper.specs.Sets.{Set, none, _∪_}
-use Rattle.paper.specs.Record.{pick, byte, ascii, Kind, Announced, format, name, end, unknown, node, announced, body-bytes}
-use Rattle.paper.specs.TurnedAway.{
-  Contents,
-  Outcome,
-  refused,
-  accepted,
-  verdict,
-  Seen,
-  unseen,
-  SoFar,
-  nothing-read,
-  Checked,
-  fault,
-  fine,
-  check-all,
-  check-depth,
-  Step,
-  on,
-  stop,
-  read-format,
-  read-name,
-  add-node,
-  read-node,
-  read-end,
-  read-record,
-  read-on,
-  read,
-}
+use Rattle.paper.specs.Record.{pick, byte, ascii, Kind, Announced, node, announced, body-bytes}
+use Rattle.paper.specs.TurnedAway.{Contents, Outcome, refused, accepted, verdict, Seen, unseen, SoFar, nothing-read, Checked, fault, fine, check-all, check-depth, Step, on, stop, read-format, add-node, read-node, read-end, read-record, read-on, read}
 use Rattle.paper.specs.Scoping.{is-word, is-reserved, reserved}
-use Rattle.paper.proofs.Runs.{after-format, after-name, after-node, seen-node, Went, went, went-at, went-named, went-begun, refused-accepted, last-of, closed}
+use Rattle.paper.proofs.Runs.{after-format, after-name, after-node, seen-node, went, went-at, went-named, went-begun, refused-accepted, last-of, closed}
 use Rattle.paper.proofs.WellFormed.{undeep}
 use Rattle.names.specs.Words.{mem}
 use Rattle.names.specs.declared.Names.{Names}
 use Rattle.fields.specs.Rows.{row-for, row-at}
-use Rattle.fields.specs.Memory.{Marks, Shows, Marked, marked, Same, checked-in}
+use Rattle.fields.specs.Memory.{Marks, Shows, Marked, Same, checked-in}
 use Rattle.record.specs.Heads.{head-by, order-by}
 use Rattle.record.specs.Names.{named-in, noted-in}
 use Rattle.record.specs.Ends.{ended-in}
@@ -57,7 +30,7 @@ use Rattle.record.specs.declared.reader.Reading.{Reading}
 use Rattle.record.specs.declared.heads.Head.{Head}
 use Rattle.record.specs.declared.heads.Head.the-variants.{Bad, Format, Name, Node, End}
 use Rattle.fields.proofs.FieldLaws.{row-same}
-use Rattle.fields.proofs.KindLaws.{known, row-length, class-format, class-name, class-node}
+use Rattle.fields.proofs.KindLaws.{known, class-format, class-name, class-node}
 use Rattle.record.proofs.HeadLaws.{head, step-bad, step-format, step-name, step-node, step-end}
 use Rattle.record.proofs.EndLaws.{end-said}
 use Rattle.record.proofs.Lying.{Reached, start, keeps, long-by-one}

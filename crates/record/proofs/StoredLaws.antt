@@ -1,18 +1,16 @@
 -- A node and a name by their numbers are the definitions' where an arena holds the bytes. Assumes nothing.
-use mathlib.Core.Path.{_≡_, refl, sym, ap, _∙_, subst}
+use mathlib.Core.Path.{_≡_, refl, sym, ap, _∙_}
 use mathlib.Core.List.{List, [], _∷_}
 use Prim.Native.Nat.{ℕ, _+_, _*_, _<_, _≤_}
 use native.Mathlib.Omega.{arith}
 use lib.ListN.{length, getD, take, drop, List·getD-eq-default}
-use Rattle.paper.specs.declared.Node.{Node}
 use Rattle.paper.specs.declared.Node.the-variants.{ListEnd}
-use Rattle.paper.specs.declared.Verdict.{Verdict}
 use Rattle.paper.specs.declared.Verdict.the-variants.{Counts, Refused}
 use Rattle.paper.specs.TurnedAway.{Contents, Outcome, refused, accepted, verdict, read}
 use Rattle.paper.specs.TheList.{trimmed, name-text}
 use Rattle.paper.specs.Questions.{name, name-of}
 use Rattle.nodes.specs.Decoded.{node-from}
-use Rattle.record.specs.Arena.{start-of, Holds, Read}
+use Rattle.record.specs.Arena.{start-of, Read}
 use Rattle.record.specs.Stored.{contents-of, contents, Stored}
 use Rattle.record.specs.declared.reader.Reading.{Reading}
 use Rattle.record.proofs.Lying.{Lies, lies}

@@ -3,7 +3,7 @@ use Prim.Native.Nat.{max}
 use native.Mathlib.Omega.{arith}
 use lib.ListN.{getD}
 use mathlib.Core.Path.{_≡_}
-use mathlib.Core.Path.{sym, ap, _∙_}
+use mathlib.Core.Path.{sym, _∙_}
 use Rattle.fields.specs.Memory.{refer-in}
 use borrow.Author.Tests.{lt-ltb, le-ltb, ne-eqb, eq-eqb, not-true, not-false}
 use borrow.Author.Needs.{needs}

@@ -1,6 +1,6 @@
 -- `reader::read` meets its contract: the invariant says what the arrays hold of the records read so far, and each arm cites the law of its turn.
 -- Assumes nothing.
-use mathlib.Core.Path.{_≡_, refl, sym, ap, _∙_}
+use mathlib.Core.Path.{_≡_, sym, ap, _∙_}
 use mathlib.Core.List.{List}
 use Prim.Native.Nat.{ℕ, _+_, _*_, _≤_, _<_, _-_}
 use native.Mathlib.Omega.{arith}
@@ -13,27 +13,9 @@ use Rattle.paper.specs.Record.{Announced, announced, body-bytes}
 use Rattle.fields.specs.Rows.{row-for, row-at}
 use Rattle.fields.specs.Memory.{Marked, told, checked-in}
 use Rattle.record.specs.Heads.{head-by}
-use Rattle.record.specs.declared.heads.Head.the-variants.{Format, Name, Node, End}
 use Rattle.fields.specs.declared.rows.Row.{Row}
 use Rattle.fields.proofs.KindLaws.{row-length, class-name}
-use Rattle.record.proofs.ReadLaws.{
-  Looped,
-  counts,
-  out,
-  bad-turn,
-  format-bad,
-  format-turn,
-  name-bad,
-  name-turn,
-  checking,
-  shallow,
-  node-bad,
-  node-turn-by,
-  end-verdict,
-  end-holds,
-  refused-read,
-  loop-start,
-}
+use Rattle.record.proofs.ReadLaws.{Looped, counts, out, bad-turn, format-bad, format-turn, name-bad, name-turn, shallow, node-bad, node-turn-by, end-verdict, end-holds, refused-read, loop-start}
 use Rattle.record.proofs.reader.read.Statement.{statement}
 use Rattle.record.proofs.reader.read.Tie as tie
 
