@@ -65,7 +65,7 @@ append-none [] = refl
 append-none (x ∷ l) = ap {B = List ℕ} (λ z. x ∷ z) (append-none l)
 
 all-say : All Says kinds
-unfolding kinds references names-in field-references field-names fits of-sort planted
+unfolding kinds field-references field-names fits of-sort planted
 all-say = (
   record { refs = λ v. refl; names = λ v. refl; fit = λ t n v. (refl, refl, refl, refl, refl) },
   (
@@ -247,7 +247,7 @@ module _ (b : List ℕ) (so : SoFar) (fs : List Field) (d : ℕ) (u : Set) (e : 
 
   -- a slot's name, if it is one
   slot-known : (x y : ℕ) (n : ℕ) → (leb x 2 && (not (eqb x 0) || ltb y n)) ≡ true → All (λ k. k < n) (slot-names (slot-of x y))
-  unfolding slot-names slot-of
+  unfolding slot-of
   slot-known x y n h = go (leb x 2) (eqb x 0) (eqb x 1) (ltb y n) refl h
     where
       go : (p q r t : Bool) → ltb y n ≡ t → (p && (not q || t)) ≡ true

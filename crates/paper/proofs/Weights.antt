@@ -190,7 +190,7 @@ total t [] w = 0
 total t (p ∷ ps) w = weight-as (p .0) (t (p .1)) w + total t ps w
 
 pub planted-weighs : (t : ℕ → Tree) (n : NodeNo) (m : Node) (w : ℕ → ℕ) → tree-weight (planted t n m) w ≡ w (n .0) + total t (references m) w
-unfolding planted tree-weight weigh total references weight-as
+unfolding planted tree-weight weigh total weight-as
 planted-weighs t n (node.And l r) w = omega arith
 planted-weighs t n (node.Or l r) w = omega arith
 planted-weighs t n (node.Not b) w = omega arith

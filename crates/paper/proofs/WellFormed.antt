@@ -122,7 +122,7 @@ undeep (fine x v) d u e = go (decLt 64 (x + 1)) e
         let z : x ≡ d = deep-eq x d v u q in
         (q, omega arith)
 
-all-both : {A : Type 0} (C D E : A → Type 0) → ((a : A) → C a → D a → E a) → (l : List A) → All C l → All D l → All E l
+pub all-both : {A : Type 0} (C D E : A → Type 0) → ((a : A) → C a → D a → E a) → (l : List A) → All C l → All D l → All E l
 all-both C D E f [] p q = tt
 all-both C D E f (a ∷ l) p q = (f a (p .0) (q .0), all-both C D E f l (p .1) (q .1))
 

@@ -14,7 +14,7 @@ use Rattle.paper.specs.declared.Node.the-variants.{And, Or, Not, Formerl
 use Rattle.paper.specs.Record.{Sort, condition, term, arguments, items, binders}
 
 -- the places of a node that hold other nodes: the sort of each, and the node's number
-unfoldable pub references : Node → List (Sort × ℕ)
+abbrev pub references : Node → List (Sort × ℕ)
 references (And l r) = (condition, l .0) ∷ (condition, r .0) ∷ []
 references (Or l r) = (condition, l .0) ∷ (condition, r .0) ∷ []
 references (Not b) = (condition, b .0) ∷ []
@@ -45,13 +45,13 @@ references (ArgumentCell f x l) = (term, x .0) ∷ (arguments, l .0) ∷ []
 references (ItemCell x l) = (term, x .0) ∷ (items, l .0) ∷ []
 references (BinderCell s y l) = (binders, l .0) ∷ []
 
-unfoldable pub slot-names : Slot → List ℕ
+abbrev pub slot-names : Slot → List ℕ
 slot-names (slot.Name x) = x .0 ∷ []
 slot-names (slot.Param k) = []
 slot-names (slot.Binder k) = []
 
 -- the names that stand in a node itself
-unfoldable pub names-in : Node → List ℕ
+abbrev pub names-in : Node → List ℕ
 names-in (And l r) = []
 names-in (Or l r) = []
 names-in (Not b) = []

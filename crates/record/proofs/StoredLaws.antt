@@ -18,7 +18,7 @@ use Rattle.record.proofs.Lying.{Lies, lies}
 -- ---- nodes
 
 -- what is shown of accepted contents holds of a byte's contents wherever they have a node
-by-outcome : (bytes : List ℕ) (P : Contents → Type 0) → ((c : Contents) → read bytes ≡ accepted c → P c) → (i : ℕ) → i < length (contents bytes .nodes) → P (contents bytes)
+pub by-outcome : (bytes : List ℕ) (P : Contents → Type 0) → ((c : Contents) → read bytes ≡ accepted c → P c) → (i : ℕ) → i < length (contents bytes .nodes) → P (contents bytes)
 unfolding contents-of
 by-outcome bytes P f i h = go (read bytes) refl h
   where

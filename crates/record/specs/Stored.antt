@@ -17,3 +17,7 @@ contents bytes = contents-of (read bytes)
 -- each node of the bytes has its start in the array
 pub record Stored (bytes starts : List ℕ) : Type 0 where
   pub starts-are : (i : ℕ) → i < length (contents bytes .nodes) → getD starts i 0 ≡ start-of bytes (length (contents bytes .names)) i
+
+-- the array has node i of the bytes
+abbrev pub Has : List ℕ → List ℕ → ℕ → Type 0
+Has bytes starts i = Stored bytes starts × (i < length (contents bytes .nodes))

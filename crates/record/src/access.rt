@@ -8,15 +8,14 @@ use paper::NodeNo;
 use paper::Verdict;
 use words::unpadded;
 ghost use mathlib.Core.Path.{_≡_};
-ghost use Prim.Native.Nat.{_<_};
-ghost use lib.ListN.{length, getD, take, drop};
+ghost use lib.ListN.{getD, take, drop};
 ghost use Rattle.paper.specs.declared.Node.the-variants.{ListEnd};
 ghost use Rattle.paper.specs.Questions.{name as name-asked};
-ghost use Rattle.record.specs.Stored.{contents, Stored};
+ghost use Rattle.record.specs.Stored.{contents, Has};
 
 // The one function that knows where a node lies.
 pub fn node_at(bytes: &[u8], starts: &[u16; 512], i: NodeNo) -> Node
-    requires { ⌜ Stored (now bytes) (now starts) × (i .0 < length (contents (now bytes) .nodes)) ⌝ }
+    requires { ⌜ Has (now bytes) (now starts) (i .0) ⌝ }
     ensures { λ r. ⌜ r ≡ getD (contents (now (bytes .entry)) .nodes) (i .0) ListEnd ⌝ }
 {
     node_from(bytes, long(starts[i.0 as usize]))
