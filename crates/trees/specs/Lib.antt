@@ -1,0 +1,2 @@
+-- The trees of the nodes of some bytes.
+pub mod Trees

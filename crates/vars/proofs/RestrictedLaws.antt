@@ -1,0 +1,303 @@
+-- What `term_contains_wildcard`, `bare_var`, `is_restrictor`, `direct_vars` and `collect_range_restricted` find at a node. Assumes nothing.
+use mathlib.Core.Path.{_≡_, refl, sym, ap, _∙_, subst}
+use mathlib.Core.Bool.{Bool, true, false, not, _||_, true≢false}
+use mathlib.Core.List.{List, [], _∷_}
+use Prim.Native.Nat.{ℕ, _<_}
+use native.Mathlib.Omega.{arith}
+use lib.Dec.{eqb}
+use lib.ListN.{getD}
+use borrow.Author.Tests.{eq-eqb, ne-eqb}
+use types.Run.{OneOf, miss}
+use denote.Enum.Declared.{tagOf}
+use Rattle.paper.proofs.Node.{the-type}
+use Rattle.paper.specs.declared.NodeNo.{NodeNo}
+use Rattle.paper.specs.declared.NameNo.{NameNo}
+use Rattle.paper.specs.declared.Slot.{Slot}
+use Rattle.paper.specs.declared.Subject.{Subject}
+use Rattle.paper.specs.declared.Subject.the-variants as subject
+use Rattle.paper.specs.declared.Tied.{Tied}
+use Rattle.paper.specs.declared.Tied.the-variants.{Left, Right, Neither}
+use Rattle.paper.specs.declared.Node.{Node}
+use Rattle.paper.specs.declared.Node.the-variants as node
+use Rattle.paper.specs.Sets.{Set, none, only, _∪_, _∖_}
+use Rattle.paper.specs.Record.{pick, node-no}
+use Rattle.paper.specs.Shape.{names-in}
+use Rattle.paper.specs.Tree.{Term, Tree, as-condition, as-term, as-arguments, planted}
+use Rattle.paper.specs.Tree.Term.{Var, Wildcard, Value, Sigil, Array, Arith, Sum, Count, AggregateCall}
+use Rattle.paper.specs.FreeAndRestricted.{named, has-wildcard, items-wildcard, bare, about, ties, equality, tied, tied-name, direct, restricted}
+use Rattle.paper.proofs.Walks.{All}
+use Rattle.record.specs.Stored.{contents, Has}
+use Rattle.trees.specs.Trees.{tree-of, condition-of, term-of, arguments-of, in-terms}
+use Rattle.trees.proofs.Arms.{Arm, arm}
+use Rattle.trees.proofs.Shapes.{Anchor, formerly, previous, since}
+use Rattle.trees.proofs.ByKind.{term-kinds, no-other, condition-cases, term-cases, arguments-cases, in-terms-cases}
+use Rattle.trees.proofs.Joins.{JoinsTerms, none-joins}
+use Rattle.vars.specs.Terms.{arguments-wildcard, wildcard-in}
+
+-- ---- wildcards
+
+pub wildcard-terms : JoinsTerms has-wildcard arguments-wildcard items-wildcard false _||_
+unfolding has-wildcard arguments-wildcard
+wildcard-terms =
+    record {
+      array = λ n l. refl;
+      arith = λ n o l r. refl;
+      argument = λ n k t l. refl;
+      item = λ n t l. refl;
+      no-argument = λ n. refl;
+      no-item = λ n. refl;
+    }
+
+no-name : {x : NameNo} → subject.NoName ≡ subject.Name x → ⊥
+no-name e = let z : _≡_ {A = ℕ} 0 1 = cc in omega arith
+
+same-name : {x y : NameNo} → subject.Name x ≡ subject.Name y → x ≡ y
+same-name e = cc
+
+pub about-name : {s : Subject} {x : NameNo} → s ≡ subject.Name x → about s ≡ only (x .0)
+unfolding about
+about-name e = ap about e
+
+pub about-none : {s : Subject} {a : Set} → s ≡ subject.NoName → about s ∪ a ≡ a
+unfolding about
+about-none {a = a} e = ap (λ (z : Subject). about z ∪ a) e ∙ none-joins a
+
+module _ {bytes starts : List ℕ} {i : ℕ} where
+  pub wildcard-here : Arm bytes starts i node.Wildcard → wildcard-in (tree-of bytes i) ≡ true
+  unfolding planted in-terms has-wildcard
+  wildcard-here a = ap wildcard-in (a .tree)
+
+  -- ---- the binding equality
+
+  pub in-term : {A : Type 0} (f : Term → A) {m : Node} → Arm bytes starts i m → f (term-of bytes i) ≡ f (as-term (planted (tree-of bytes) (node-no i) m))
+  in-term f a = ap (λ (t : Tree). f (as-term t)) (a .tree)
+
+  pub bare-here : {x : NameNo} → Arm bytes starts i (node.Var x) → bare (term-of bytes i) ≡ subject.Name x
+  unfolding planted as-term bare
+  bare-here a = in-term bare a
+
+  -- a bare variable is in the table
+  pub bare-tabled : Has bytes starts i → {x : NameNo} → bare (term-of bytes i) ≡ subject.Name x → x .0 < 128
+  unfolding bare
+  bare-tabled h {x} e = here (getD (contents bytes .nodes) i node.ListEnd) (arm bytes starts i _ _ h refl refl)
+    where
+      here : (m : Node) → Arm bytes starts i m → x .0 < 128
+      here m a =
+          term-cases (tree-of bytes) (node-no i) (λ m z. All (λ y. y < 128) (names-in m) → bare z ≡ subject.Name x → x .0 < 128)
+          (λ y a e. subst (λ (z : NameNo). z .0 < 128) (same-name e) (a .0)) (λ a e. absurd (no-name e)) (λ y a e. absurd (no-name e)) (λ y a e. absurd (no-name e))
+          (λ y a e. absurd (no-name e)) (λ k a e. absurd (no-name e)) (λ k a e. absurd (no-name e)) (λ l a e. absurd (no-name e)) (λ o l r a e. absurd (no-name e))
+          (λ s l b a e. absurd (no-name e)) (λ l b a e. absurd (no-name e)) (λ y a e. absurd (no-name e)) (λ m o a e. absurd (no-name e))
+          m (a .tabled) (sym (in-term bare a) ∙ e)
+
+  -- arithmetic ties where it contains no wildcard
+  pub ties-arith : {o : ℕ} {l r : NodeNo} → Arm bytes starts i (node.Arith o l r) → ties (term-of bytes i) ≡ not (wildcard-in (tree-of bytes i))
+  unfolding planted as-term in-terms ties has-wildcard
+  ties-arith a = in-term ties a ∙ sym (ap (λ (t : Tree). not (wildcard-in t)) (a .tree))
+
+  -- ---- restricted names
+
+  pub in-arguments : {m : Node} → Arm bytes starts i m → direct (arguments-of bytes i) ≡ direct (as-arguments (planted (tree-of bytes) (node-no i) m))
+  in-arguments a = ap (λ (t : Tree). direct (as-arguments t)) (a .tree)
+
+  pub direct-cell : {k : ℕ} {x l : NodeNo} → Arm bytes starts i (node.ArgumentCell k x l)
+      → direct (arguments-of bytes i) ≡ about (bare (term-of bytes (x .0))) ∪ direct (arguments-of bytes (l .0))
+  unfolding planted as-arguments direct
+  direct-cell a = in-arguments a
+
+  pub in-restricted : {m : Node} → Arm bytes starts i m → restricted (condition-of bytes i) ≡ restricted (as-condition (planted (tree-of bytes) (node-no i) m))
+  in-restricted a = ap (λ (t : Tree). restricted (as-condition t)) (a .tree)
+
+  pub restricted-and : {l r : NodeNo} → Arm bytes starts i (node.And l r)
+      → restricted (condition-of bytes i) ≡ restricted (condition-of bytes (l .0)) ∪ restricted (condition-of bytes (r .0))
+  unfolding planted as-condition restricted
+  restricted-and a = in-restricted a
+
+  pub restricted-predicate : {k : ℕ} {l : NodeNo} → Arm bytes starts i (node.Predicate k l) → restricted (condition-of bytes i) ≡ direct (arguments-of bytes (l .0))
+  unfolding planted as-condition restricted
+  restricted-predicate a = in-restricted a
+
+  pub restricted-tp : {s : Slot} → Arm bytes starts i (node.Tp s) → restricted (condition-of bytes i) ≡ named s
+  unfolding planted as-condition restricted
+  restricted-tp a = in-restricted a
+
+  pub restricted-comparison : {o : ℕ} {l r : NodeNo} → Arm bytes starts i (node.Comparison o l r)
+      → restricted (condition-of bytes i) ≡ tied-name (tied o (term-of bytes (l .0)) (term-of bytes (r .0)))
+  unfolding planted as-condition restricted
+  restricted-comparison a = in-restricted a
+
+  pub restricted-anchor : {b : NodeNo} {m : Node} → Anchor b m → Arm bytes starts i m → restricted (condition-of bytes i) ≡ restricted (condition-of bytes (b .0))
+  unfolding planted as-condition restricted
+  restricted-anchor formerly a = in-restricted a
+  restricted-anchor previous a = in-restricted a
+  restricted-anchor since a = in-restricted a
+
+  pub restricted-exists : {s : Slot} {y : ℕ} {b : NodeNo} → Arm bytes starts i (node.Exists s y b)
+      → restricted (condition-of bytes i) ≡ restricted (condition-of bytes (b .0)) ∖ named s
+  unfolding planted as-condition restricted
+  restricted-exists a = in-restricted a
+
+  pub restricted-refine : {b l : NodeNo} → Arm bytes starts i (node.Refine b l)
+      → restricted (condition-of bytes i) ≡ restricted (condition-of bytes (b .0)) ∪ direct (arguments-of bytes (l .0))
+  unfolding planted as-condition restricted
+  restricted-refine a = in-restricted a
+
+-- ---- what an equality ties
+
+-- what has a value is no bare variable
+ties-unbare : (t : Term) → ties t ≡ true → bare t ≡ subject.NoName
+unfolding ties bare
+ties-unbare (Var n x) e = absurd (true≢false (sym e))
+ties-unbare (Wildcard n) e = refl
+ties-unbare (Value n k y) e = refl
+ties-unbare (Sigil n k y) e = refl
+ties-unbare (Array n l) e = refl
+ties-unbare (Arith n o l r) e = refl
+ties-unbare (Sum n s l b) e = refl
+ties-unbare (Count n l b) e = refl
+ties-unbare (AggregateCall n y) e = refl
+
+module _ (l r : Term) where
+  pub tied-other : (o : ℕ) → (o ≡ 0 → ⊥) → tied o l r ≡ Neither
+  unfolding tied
+  tied-other o h = rw (ne-eqb o 0 h)
+
+  pub tied-left : (o : ℕ) → o ≡ 0 → {x : NameNo} → bare l ≡ subject.Name x → ties r ≡ true → tied o l r ≡ Left x
+  unfolding tied equality
+  tied-left o h e f = rw (eq-eqb o 0 h, e, ties-unbare r f, f)
+
+  pub tied-left-not : (o : ℕ) → o ≡ 0 → {x : NameNo} → bare l ≡ subject.Name x → ties r ≡ false → tied o l r ≡ Neither
+  unfolding tied equality
+  tied-left-not o h {x} e f = rw (eq-eqb o 0 h, e, f) (go (bare r))
+    where
+      go : (q : Subject) → equality (subject.Name x) q (ties l) false ≡ Neither
+      go (subject.Name y) = refl
+      go subject.NoName = refl
+
+  pub tied-right : (o : ℕ) → o ≡ 0 → bare l ≡ subject.NoName → {y : NameNo} → bare r ≡ subject.Name y → ties l ≡ true → tied o l r ≡ Right y
+  unfolding tied equality
+  tied-right o h e f g = rw (eq-eqb o 0 h, e, f, g)
+
+  pub tied-right-not : (o : ℕ) → o ≡ 0 → bare l ≡ subject.NoName → {y : NameNo} → bare r ≡ subject.Name y → ties l ≡ false → tied o l r ≡ Neither
+  unfolding tied equality
+  tied-right-not o h e f g = rw (eq-eqb o 0 h, e, f, g)
+
+  pub tied-neither : (o : ℕ) → bare l ≡ subject.NoName → bare r ≡ subject.NoName → tied o l r ≡ Neither
+  unfolding tied equality
+  tied-neither o e f = rw (e, f) (go (eqb o 0))
+    where
+      go : (b : Bool) → pick b Neither Neither ≡ Neither
+      go true = refl
+      go false = refl
+
+-- the tied name is the bare variable of its side
+abbrev OfSide : Tied → Subject → Subject → Type 0
+OfSide (Left x) p q = p ≡ subject.Name x
+OfSide (Right x) p q = q ≡ subject.Name x
+OfSide Neither p q = Unit {0}
+
+tied-bare : (o : ℕ) (l r : Term) → OfSide (tied o l r) (bare l) (bare r)
+unfolding tied equality
+tied-bare o l r = go (eqb o 0) (bare l) (bare r) (ties l) (ties r)
+  where
+    go : (b : Bool) (p q : Subject) (s t : Bool) → OfSide (pick b (equality p q s t) Neither) p q
+    go false p q s t = tt
+    go true (subject.Name x) (subject.Name y) s t = tt
+    go true (subject.Name x) subject.NoName s true = refl
+    go true (subject.Name x) subject.NoName s false = tt
+    go true subject.NoName (subject.Name y) true t = refl
+    go true subject.NoName (subject.Name y) false t = tt
+    go true subject.NoName subject.NoName s t = tt
+
+-- the name that a comparison ties, on whichever side
+pub data TiedTo (x : NameNo) : Tied → Type 0 where
+  left : TiedTo x (Left x)
+  right : TiedTo x (Right x)
+
+pub tied-to-name : {x : NameNo} {z : Tied} → TiedTo x z → tied-name z ≡ only (x .0)
+unfolding tied-name
+tied-to-name left = refl
+tied-to-name right = refl
+
+pub tied-tabled : {bytes starts : List ℕ} {i j : ℕ} → Has bytes starts i → Has bytes starts j → {x : NameNo} {z : Tied} → TiedTo x z → (o : ℕ)
+    → z ≡ tied o (term-of bytes i) (term-of bytes j) → x .0 < 128
+tied-tabled {bytes} {starts} {i} {j} h k {x} {z} d o e = go d (subst (λ (y : Tied). OfSide y (bare (term-of bytes i)) (bare (term-of bytes j))) (sym e) (tied-bare o _ _))
+  where
+    go : {z : Tied} → TiedTo x z → OfSide z (bare (term-of bytes i)) (bare (term-of bytes j)) → x .0 < 128
+    go left e = bare-tabled h e
+    go right e = bare-tabled k e
+
+-- ---- the other kinds
+
+-- what is no wildcard and has no term
+abbrev no-wildcard-kinds : List ℕ
+no-wildcard-kinds = 0 ∷ 1 ∷ 2 ∷ 3 ∷ 4 ∷ 5 ∷ 6 ∷ 7 ∷ 8 ∷ 9 ∷ 10 ∷ 11 ∷ 12 ∷ 13 ∷ 15 ∷ 16 ∷ 17 ∷ 18 ∷ 19 ∷ 22 ∷ 23 ∷ 24 ∷ 25 ∷ 28 ∷ []
+
+pub no-wildcard : (t : ℕ → Tree) (n : NodeNo) (m : Node) → OneOf no-wildcard-kinds (tagOf the-type m) → wildcard-in (planted t n m) ≡ false
+unfolding has-wildcard
+no-wildcard t n =
+    in-terms-cases has-wildcard arguments-wildcard items-wildcard false t n (λ m z. OneOf no-wildcard-kinds (tagOf the-type m) → z ≡ false)
+    (λ x h. refl) (λ h. absurd (miss no-wildcard-kinds 14 tt h)) (λ y h. refl) (λ y h. refl) (λ y h. refl) (λ k h. refl) (λ k h. refl)
+    (λ l h. absurd (miss no-wildcard-kinds 20 tt h)) (λ o l r h. absurd (miss no-wildcard-kinds 21 tt h)) (λ s l b h. refl) (λ l b h. refl)
+    (λ y h. refl) (λ f x l h. absurd (miss no-wildcard-kinds 26 tt h)) (λ x l h. absurd (miss no-wildcard-kinds 27 tt h)) (λ m e h. refl)
+
+-- no variable
+abbrev not-bare-kinds : List ℕ
+not-bare-kinds = 0 ∷ 1 ∷ 2 ∷ 3 ∷ 4 ∷ 5 ∷ 6 ∷ 7 ∷ 8 ∷ 9 ∷ 10 ∷ 11 ∷ 12 ∷ 14 ∷ 15 ∷ 16 ∷ 17 ∷ 18 ∷ 19 ∷ 20 ∷ 21 ∷ 22 ∷ 23 ∷ 24 ∷ 25 ∷ 26 ∷ 27 ∷ 28 ∷ []
+
+pub not-bare : (t : ℕ → Tree) (n : NodeNo) (m : Node) → OneOf not-bare-kinds (tagOf the-type m) → bare (as-term (planted t n m)) ≡ subject.NoName
+unfolding bare
+not-bare t n =
+    term-cases t n (λ m z. OneOf not-bare-kinds (tagOf the-type m) → bare z ≡ subject.NoName)
+    (λ x h. absurd (miss not-bare-kinds 13 tt h)) (λ h. refl) (λ y h. refl) (λ y h. refl) (λ y h. refl) (λ k h. refl) (λ k h. refl) (λ l h. refl)
+    (λ o l r h. refl) (λ s l b h. refl) (λ l b h. refl) (λ y h. refl) (λ m e h. refl)
+
+-- a variable and a wildcard
+abbrev ties-nothing-kinds : List ℕ
+ties-nothing-kinds = 13 ∷ 14 ∷ []
+
+pub ties-nothing : (t : ℕ → Tree) (n : NodeNo) (m : Node) → OneOf ties-nothing-kinds (tagOf the-type m) → ties (as-term (planted t n m)) ≡ false
+unfolding ties
+ties-nothing t n =
+    term-cases t n (λ m z. OneOf ties-nothing-kinds (tagOf the-type m) → ties z ≡ false)
+    (λ x h. refl) (λ h. refl) (λ y h. absurd (miss ties-nothing-kinds 15 tt h)) (λ y h. absurd (miss ties-nothing-kinds 16 tt h))
+    (λ y h. absurd (miss ties-nothing-kinds 17 tt h)) (λ k h. absurd (miss ties-nothing-kinds 18 tt h))
+    (λ k h. absurd (miss ties-nothing-kinds 19 tt h)) (λ l h. absurd (miss ties-nothing-kinds 20 tt h))
+    (λ o l r h. absurd (miss ties-nothing-kinds 21 tt h)) (λ s l b h. absurd (miss ties-nothing-kinds 22 tt h))
+    (λ l b h. absurd (miss ties-nothing-kinds 23 tt h)) (λ y h. absurd (miss ties-nothing-kinds 24 tt h))
+    (λ m e h. absurd (no-other ties-nothing-kinds term-kinds _ refl h e))
+
+-- any other value
+abbrev ties-value-kinds : List ℕ
+ties-value-kinds = 0 ∷ 1 ∷ 2 ∷ 3 ∷ 4 ∷ 5 ∷ 6 ∷ 7 ∷ 8 ∷ 9 ∷ 10 ∷ 11 ∷ 12 ∷ 15 ∷ 16 ∷ 17 ∷ 18 ∷ 19 ∷ 20 ∷ 22 ∷ 23 ∷ 24 ∷ 25 ∷ 26 ∷ 27 ∷ 28 ∷ []
+
+pub ties-value : (t : ℕ → Tree) (n : NodeNo) (m : Node) → OneOf ties-value-kinds (tagOf the-type m) → ties (as-term (planted t n m)) ≡ true
+unfolding ties
+ties-value t n =
+    term-cases t n (λ m z. OneOf ties-value-kinds (tagOf the-type m) → ties z ≡ true)
+    (λ x h. absurd (miss ties-value-kinds 13 tt h)) (λ h. absurd (miss ties-value-kinds 14 tt h)) (λ y h. refl) (λ y h. refl) (λ y h. refl)
+    (λ k h. refl) (λ k h. refl) (λ l h. refl) (λ o l r h. absurd (miss ties-value-kinds 21 tt h)) (λ s l b h. refl) (λ l b h. refl) (λ y h. refl)
+    (λ m e h. refl)
+
+-- no argument cell
+abbrev no-arguments-kinds : List ℕ
+no-arguments-kinds = 0 ∷ 1 ∷ 2 ∷ 3 ∷ 4 ∷ 5 ∷ 6 ∷ 7 ∷ 8 ∷ 9 ∷ 10 ∷ 11 ∷ 12 ∷ 13 ∷ 14 ∷ 15 ∷ 16 ∷ 17 ∷ 18 ∷ 19 ∷ 20 ∷ 21 ∷ 22 ∷ 23 ∷ 24 ∷ 25 ∷ 27 ∷ 28 ∷ []
+
+pub no-arguments : (t : ℕ → Tree) (n : NodeNo) (m : Node) → OneOf no-arguments-kinds (tagOf the-type m) → direct (as-arguments (planted t n m)) ≡ none
+unfolding direct
+no-arguments t n =
+    arguments-cases t n (λ m z. OneOf no-arguments-kinds (tagOf the-type m) → direct z ≡ none)
+    (λ h. refl) (λ f x l h. absurd (miss no-arguments-kinds 26 tt h)) (λ m e h. refl)
+
+-- Or, Not, Call, SigilRef, and no condition
+abbrev restricts-nothing-kinds : List ℕ
+restricts-nothing-kinds = 1 ∷ 2 ∷ 11 ∷ 12 ∷ 13 ∷ 14 ∷ 15 ∷ 16 ∷ 17 ∷ 18 ∷ 19 ∷ 20 ∷ 21 ∷ 22 ∷ 23 ∷ 24 ∷ 25 ∷ 26 ∷ 27 ∷ 28 ∷ []
+
+pub restricts-nothing : (t : ℕ → Tree) (n : NodeNo) (m : Node) → OneOf restricts-nothing-kinds (tagOf the-type m) → restricted (as-condition (planted t n m)) ≡ none
+unfolding restricted direct
+restricts-nothing t n =
+    condition-cases t n (λ m z. OneOf restricts-nothing-kinds (tagOf the-type m) → restricted z ≡ none)
+    (λ l r h. absurd (miss restricts-nothing-kinds 0 tt h)) (λ l r h. refl) (λ b h. refl) (λ b w h. absurd (miss restricts-nothing-kinds 3 tt h))
+    (λ b w h. absurd (miss restricts-nothing-kinds 4 tt h)) (λ l r w h. absurd (miss restricts-nothing-kinds 5 tt h))
+    (λ s y b h. absurd (miss restricts-nothing-kinds 6 tt h)) (λ o l r h. absurd (miss restricts-nothing-kinds 7 tt h))
+    (λ a l h. absurd (miss restricts-nothing-kinds 8 tt h)) (λ b l h. absurd (miss restricts-nothing-kinds 9 tt h))
+    (λ s h. absurd (miss restricts-nothing-kinds 10 tt h)) (λ y h. refl) (λ y h. refl) (λ m e h. refl)
