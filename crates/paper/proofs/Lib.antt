@@ -1,6 +1,7 @@
 -- What is true of the definitions alone.
 pub mod Cases
 pub mod SetLaws
+pub mod RestrictedFree
 pub mod Runs
 pub mod Ascending
 pub mod Entries

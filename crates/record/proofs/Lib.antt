@@ -4,4 +4,5 @@ pub mod EndLaws
 pub mod Lying
 pub mod NameLaws
 pub mod ReadLaws
+pub mod Verdicts
 pub mod StoredLaws

@@ -14,6 +14,7 @@ use Rattle.record.specs.Arena.{start-of, Read}
 use Rattle.record.specs.Stored.{contents-of, contents, Stored}
 use Rattle.record.specs.declared.reader.Reading.{Reading}
 use Rattle.record.proofs.Lying.{Lies, lies}
+use Rattle.record.proofs.Verdicts.{refused-is, Told, counts-are}
 
 -- ---- nodes
 
@@ -47,43 +48,24 @@ read-stored bytes r p = record { starts-are = λ i h. go (read bytes) refl i h }
 
 -- ---- names
 
-refused-eq : (n o m p : ℕ) → Refused n o ≡ Refused m p → n ≡ m
-refused-eq n o m p e = cc
-
 module _ (bytes : List ℕ) (x : ℕ) where
   pub name-refused : (n o : ℕ) → verdict (read bytes) ≡ Refused n o → name bytes x ≡ []
-  unfolding name name-of verdict
-  name-refused n o e = go (read bytes) e
-    where
-      go : (r : Outcome) → verdict r ≡ Refused n o → name-of r x ≡ []
-      go (refused m p) e = refl
-      go (accepted c) e = absurd (let z : _≡_ {A = ℕ} 0 1 = cc in omega arith)
+  unfolding name name-of
+  name-refused n o e = ap (λ (r : Outcome). name-of r x) (refused-is bytes e)
 
-  abbrev counted : Outcome → ℕ → ℕ → Type 0
-  counted r n k = verdict r ≡ Counts n k
+  name-told : {n k : ℕ} → Told bytes n k → name bytes x ≡ trimmed (getD (contents bytes .names) x [])
+  unfolding name name-of name-text
+  name-told t = ap (λ (r : Outcome). name-of r x) (t .outcome)
 
   pub name-unknown : (n k : ℕ) → verdict (read bytes) ≡ Counts n k → n ≤ x → name bytes x ≡ []
-  unfolding name name-of verdict name-text trimmed
-  name-unknown n k e h = go (read bytes) e
-    where
-      go : (r : Outcome) → verdict r ≡ Counts n k → name-of r x ≡ []
-      go (refused m p) e = refl
-      go (accepted c) e =
-          let d : length (c .names) ≡ n = names-eq (length (c .names)) (length (c .nodes)) n k e in
-          ap trimmed (List·getD-eq-default (c .names) [] {n = x} (omega arith))
-        where
-          names-eq : (a b n k : ℕ) → Counts a b ≡ Counts n k → a ≡ n
-          names-eq a b n k e = cc
+  unfolding trimmed
+  name-unknown n k e h =
+      let t = counts-are bytes e in
+      let long = t .names-are in
+      name-told t ∙ ap trimmed (List·getD-eq-default (contents bytes .names) [] {n = x} (omega arith))
 
   pub name-known : (n k : ℕ) → verdict (read bytes) ≡ Counts n k → x < n → trimmed (take 24 (drop (3 + 25 * x) bytes)) ≡ name bytes x
-  unfolding name name-of verdict name-text
-  name-known n k e h = go (read bytes) refl e
-    where
-      go : (r : Outcome) → read bytes ≡ r → verdict r ≡ Counts n k → trimmed (take 24 (drop (3 + 25 * x) bytes)) ≡ name-of r x
-      go (refused m p) d e = absurd (let z : _≡_ {A = ℕ} 0 1 = cc in omega arith)
-      go (accepted c) d e =
-          let g : length (c .names) ≡ n = names-eq (length (c .names)) (length (c .nodes)) n k e in
-          ap trimmed (sym (lies bytes c d .name x (omega arith)))
-        where
-          names-eq : (a b n k : ℕ) → Counts a b ≡ Counts n k → a ≡ n
-          names-eq a b n k e = cc
+  name-known n k e h =
+      let t = counts-are bytes e in
+      let long = t .names-are in
+      sym (name-told t ∙ ap trimmed (lies bytes (contents bytes) (t .outcome) .name x (omega arith)))

@@ -18,7 +18,7 @@ use Rattle.trees.specs.Trees.{tree-of, condition-of, in-terms}
 use Rattle.trees.proofs.Arms.{Arm}
 use Rattle.trees.proofs.Sorts.{at-term, at-arguments, at-items}
 use Rattle.trees.proofs.Shapes as shape
-use Rattle.trees.proofs.Shapes.{Two, One, Body, Terms}
+use Rattle.trees.proofs.Shapes.{Two, One, Body, Base, Terms}
 
 -- ---- conditions
 
@@ -51,6 +51,13 @@ pub body-law : {A : Type 0} {f : Condition → A} → PassesOne f → ((n : Node
 unfolding planted as-condition
 body-law j e (shape.one s) a = one-law j s a
 body-law {f = f} j e shape.exists a = ap (λ (t : Tree). f (as-condition t)) (a .tree) ∙ e _ _ _ _
+
+pub base-law : {A : Type 0} {f : Condition → A} → PassesOne f → ((n : NodeNo) (s : Slot) (y : ℕ) (b : Condition) → f (Exists n s y b) ≡ f b)
+    → ((n : NodeNo) (b : Condition) (l : Arguments) → f (Refine n b l) ≡ f b) → {bytes starts : List ℕ} {i : ℕ} {b : NodeNo} {m : Node} → Base b m
+    → Arm bytes starts i m → f (condition-of bytes i) ≡ f (condition-of bytes (b .0))
+unfolding planted as-condition
+base-law j e r (shape.body s) a = body-law j e s a
+base-law {f = f} j e r shape.refine a = ap (λ (t : Tree). f (as-condition t)) (a .tree) ∙ r _ _ _
 
 -- ---- terms
 

@@ -1,0 +1,42 @@
+// Whether arithmetic is an operand of a comparison.
+use paper::Node;
+use paper::NodeNo;
+use record::access::node_at;
+ghost use mathlib.Core.Path.{_≡_};
+ghost use Rattle.paper.specs.Demands.{has-arith, operand-arith};
+ghost use Rattle.record.specs.Stored.{Has};
+ghost use Rattle.trees.specs.Trees.{condition-of, term-of};
+
+pub fn condition_has_arith(bytes: &[u8], starts: &[u16; 512], i: NodeNo) -> bool
+    requires { ⌜ Has (now bytes) (now starts) (i .0) ⌝ }
+    ensures { λ r. ⌜ r ≡ has-arith (condition-of (now (bytes .entry)) (i .0)) ⌝ }
+{
+    let node = node_at(bytes, starts, i);
+    match node {
+        Node::And(l, r) | Node::Or(l, r) | Node::Since(l, r, _) => {
+            condition_has_arith(bytes, starts, l) || condition_has_arith(bytes, starts, r)
+        }
+        Node::Not(b)
+        | Node::Formerly(b, _)
+        | Node::Previous(b, _)
+        | Node::Exists(_, _, b)
+        | Node::Refine(b, _) => condition_has_arith(bytes, starts, b),
+        Node::Comparison(_, l, r) => {
+            term_has_arith(bytes, starts, l) || term_has_arith(bytes, starts, r)
+        }
+        _ => false,
+    }
+}
+
+// Of an operand: arithmetic itself, or an aggregate whose body has it.
+pub fn term_has_arith(bytes: &[u8], starts: &[u16; 512], i: NodeNo) -> bool
+    requires { ⌜ Has (now bytes) (now starts) (i .0) ⌝ }
+    ensures { λ r. ⌜ r ≡ operand-arith (term-of (now (bytes .entry)) (i .0)) ⌝ }
+{
+    let node = node_at(bytes, starts, i);
+    match node {
+        Node::Arith(_, _, _) => true,
+        Node::Sum(_, _, body) | Node::Count(_, body) => condition_has_arith(bytes, starts, body),
+        _ => false,
+    }
+}

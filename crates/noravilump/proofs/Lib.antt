@@ -1,0 +1,2 @@
+-- Each question's answer, by the reader's verdict.
+pub mod Asked

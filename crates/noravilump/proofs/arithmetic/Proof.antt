@@ -1,0 +1,43 @@
+use mathlib.Core.Path.{sym, ap, _∙_}
+use borrow.Author.Needs.{needs}
+use Rattle.paper.specs.declared.Arithmetic.the-variants.{Yes, No}
+use Rattle.paper.specs.Record.{pick}
+use Rattle.record.proofs.Verdicts.{counts-are}
+use Rattle.noravilump.specs.Passed.{arithmetic-passed}
+use Rattle.noravilump.proofs.Asked.{arithmetic-refused, some-root, has-root, arithmetic-told}
+use Rattle.noravilump.proofs.arithmetic.Statement.{statement}
+use Rattle.noravilump.proofs.arithmetic.Tie as tie
+
+returns : tie.Need-returns
+unfolding arithmetic-passed
+returns c =
+    let told = c .before .enum-told .given .1 in
+    let read = c .before .before .before .before in
+    c .passed-arithmetic .ensures ∙ ap arithmetic-passed told ∙ sym (arithmetic-refused _ (sym (read .read .ensures .said) ∙ told))
+
+root-requires : tie.Need-root-requires
+root-requires c κs =
+    let read = c .before .before .before .before .before .before in
+    some-root _ (counts-are _ (sym (read .read .ensures .said) ∙ c .before .before .before .v .given .1))
+
+condition-has-arith-requires : tie.Need-condition-has-arith-requires
+condition-has-arith-requires c κs =
+    let read = c .before .before .before .before .before .before .before in
+    has-root _ (counts-are _ (sym (read .read .ensures .said) ∙ c .before .before .before .before .v .given .1)) _ (read .read .ensures) _ (c .root .ensures)
+
+returns-2 : tie.Need-returns-2
+returns-2 c =
+    let read = c .before .before .before .before .before .before .before .before .before in
+    sym (arithmetic-told _ (counts-are _ (sym (read .read .ensures .said) ∙ c .before .before .before .before .before .before .v .given .1)) _ (c .before .before .root .ensures)
+    ∙ ap (λ b. pick b Yes No) (sym (c .before .condition-has-arith .ensures) ∙ c .if1 .taken))
+
+returns-3 : tie.Need-returns-3
+returns-3 c =
+    let read = c .before .before .before .before .before .before .before .before .before in
+    sym (arithmetic-told _ (counts-are _ (sym (read .read .ensures .said) ∙ c .before .before .before .before .before .before .v .given .1)) _ (c .before .before .root .ensures)
+    ∙ ap (λ b. pick b Yes No) (sym (c .before .condition-has-arith .ensures) ∙ c .if1 .left))
+
+pub arithmetic-spec : {M : Type 1} → statement M
+arithmetic-spec =
+    tie.close
+    (tie.spec (λ c κs. search needs) (λ c. search needs) (λ c. search needs) (λ c κs. search needs) returns root-requires condition-has-arith-requires returns-2 returns-3)

@@ -1,0 +1,2 @@
+-- How a refusal is passed on.
+pub mod Passed

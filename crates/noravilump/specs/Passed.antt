@@ -1,0 +1,15 @@
+-- A refusal of the reader as each question's answer: "passed up unchanged". Nothing is passed on of counts. Assumes nothing: these are definitions.
+use Rattle.paper.specs.declared.Verdict.{Verdict}
+use Rattle.paper.specs.declared.Verdict.the-variants.{Counts, Refused}
+use Rattle.paper.specs.declared.Answer.{Answer}
+use Rattle.paper.specs.declared.Answer.the-variants as answer
+use Rattle.paper.specs.declared.Arithmetic.{Arithmetic}
+use Rattle.paper.specs.declared.Arithmetic.the-variants as arithmetic
+
+unfoldable pub answer-passed : Verdict → Answer
+answer-passed (Counts names nodes) = answer.Accepted
+answer-passed (Refused number offset) = answer.Refused number offset
+
+unfoldable pub arithmetic-passed : Verdict → Arithmetic
+arithmetic-passed (Counts names nodes) = arithmetic.No
+arithmetic-passed (Refused number offset) = arithmetic.Refused number offset

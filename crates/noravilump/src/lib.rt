@@ -1,0 +1,74 @@
+// The public questions. Any bytes may be asked about.
+use checks::arith::condition_has_arith;
+use checks::closed::check_leaf_closed;
+use paper::Answer;
+use paper::Arithmetic;
+use paper::NodeNo;
+use paper::Verdict;
+use record::reader::read;
+ghost use mathlib.Core.Path.{_≡_};
+ghost use Prim.Native.Nat.{_-_, _<_, _≤_};
+ghost use Rattle.paper.specs.Record.{node-no};
+ghost use Rattle.paper.specs.Questions.{closedness as closedness-answer, arithmetic as arithmetic-answer};
+ghost use Rattle.noravilump.specs.Passed.{answer-passed, arithmetic-passed};
+
+// The last node.
+fn root(nodes: usize) -> NodeNo
+    requires { ⌜ (0 < nodes) × (nodes ≤ 512) ⌝ }
+    ensures { λ r. ⌜ r ≡ node-no (nodes - 1) ⌝ }
+{
+    NodeNo((nodes - 1) as u16)
+}
+
+fn passed_answer(v: Verdict) -> Answer
+    ensures { λ r. ⌜ r ≡ answer-passed v ⌝ }
+{
+    match v {
+        Verdict::Refused { number, offset } => Answer::Refused {
+            number: number,
+            offset: offset,
+        },
+        _ => Answer::Accepted,
+    }
+}
+
+fn passed_arithmetic(v: Verdict) -> Arithmetic
+    ensures { λ r. ⌜ r ≡ arithmetic-passed v ⌝ }
+{
+    match v {
+        Verdict::Refused { number, offset } => Arithmetic::Refused {
+            number: number,
+            offset: offset,
+        },
+        _ => Arithmetic::No,
+    }
+}
+
+// A refusal of the reader; 28 with the root and its least free name; or accepted.
+pub fn closedness(bytes: &[u8]) -> Answer
+    ensures { λ r. ⌜ r ≡ closedness-answer (now (bytes .entry)) ⌝ }
+{
+    let r = read(bytes);
+    let v = r.verdict;
+    let a = r.arena;
+    let Verdict::Counts { names: _, nodes } = v else {
+        return passed_answer(v);
+    };
+    check_leaf_closed(bytes, &a.starts, root(nodes))
+}
+
+// A refusal of the reader; or whether arithmetic is an operand of a comparison.
+pub fn arithmetic(bytes: &[u8]) -> Arithmetic
+    ensures { λ r. ⌜ r ≡ arithmetic-answer (now (bytes .entry)) ⌝ }
+{
+    let r = read(bytes);
+    let v = r.verdict;
+    let a = r.arena;
+    let Verdict::Counts { names: _, nodes } = v else {
+        return passed_arithmetic(v);
+    };
+    if condition_has_arith(bytes, &a.starts, root(nodes)) {
+        return Arithmetic::Yes;
+    }
+    Arithmetic::No
+}
