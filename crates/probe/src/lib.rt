@@ -1,12 +1,17 @@
-// What oracle/ calls: the reader's verdict and a name's length as plain numbers. The C face comes with the public questions.
+// What oracle/ calls: the reader's verdict, a name's length and the answers so far as plain numbers. The C face comes with issue 6.
+use octets::long;
 use octets::wide;
+use paper::Answer;
+use paper::Arithmetic;
 use paper::NameNo;
+use paper::Subject;
 use paper::Verdict;
 ghost use mathlib.Core.Path.{_≡_};
 ghost use lib.ListN.{length};
 ghost use Rattle.paper.specs.TurnedAway.{read as read-bytes, verdict};
-ghost use Rattle.paper.specs.Questions.{name};
-ghost use Rattle.probe.specs.Numbers.{probed};
+ghost use Rattle.paper.specs.TheList.{name-or-255};
+ghost use Rattle.paper.specs.Questions.{name, answer-numbers, arithmetic-numbers, closedness, arithmetic};
+ghost use Rattle.probe.specs.Numbers.{probed, asked};
 
 // The refusal's number, or 0; how many names were read; and how many nodes, or the refusal's offset.
 #[repr(C)]
@@ -43,4 +48,56 @@ pub extern "C" fn probe_name_length(bytes: &[u8], x: u8) -> usize
 {
     let n = record::access::name(bytes, NameNo(x));
     n.len()
+}
+
+// Document 01's numbers for an answer: a number, a place and a name.
+#[repr(C)]
+pub struct Asked {
+    pub number: usize,
+    pub place: usize,
+    pub name: usize,
+}
+
+fn told(number: u8, place: usize, name: usize) -> Asked
+    ensures { λ r. ⌜ r ≡ record { number = number; place = place; name = name } ⌝ }
+{
+    Asked {
+        number: wide(number),
+        place: place,
+        name: name,
+    }
+}
+
+fn name_number(s: Subject) -> usize
+    ensures { λ r. ⌜ r ≡ name-or-255 s ⌝ }
+{
+    match s {
+        Subject::Name(x) => wide(x.0),
+        Subject::NoName => 255,
+    }
+}
+
+#[no_mangle]
+pub extern "C" fn probe_closedness(bytes: &[u8]) -> Asked
+    ensures { λ r. ⌜ r ≡ asked (answer-numbers (closedness (now (bytes .entry)))) ⌝ }
+{
+    match noravilump::closedness(bytes) {
+        Answer::Accepted => told(0, 0, 255),
+        Answer::Unmet(f) => {
+            let subject = f.name;
+            told(f.rule, long(f.node.0), name_number(subject))
+        }
+        Answer::Refused { number, offset } => told(number, offset, 255),
+    }
+}
+
+#[no_mangle]
+pub extern "C" fn probe_arithmetic(bytes: &[u8]) -> Asked
+    ensures { λ r. ⌜ r ≡ asked (arithmetic-numbers (arithmetic (now (bytes .entry)))) ⌝ }
+{
+    match noravilump::arithmetic(bytes) {
+        Arithmetic::Yes => told(40, 0, 255),
+        Arithmetic::No => told(0, 0, 255),
+        Arithmetic::Refused { number, offset } => told(number, offset, 255),
+    }
 }
