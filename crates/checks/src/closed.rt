@@ -1,9 +1,9 @@
 // Whether a condition is closed.
+use free::collect_free;
 use paper::Answer;
 use paper::Finding;
 use paper::NodeNo;
 use paper::Subject;
-use vars::free::collect_free;
 ghost use mathlib.Core.Path.{_≡_};
 ghost use Rattle.paper.specs.FreeAndRestricted.{free};
 ghost use Rattle.paper.specs.Places.{for-names, findings};

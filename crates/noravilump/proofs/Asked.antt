@@ -1,14 +1,11 @@
 -- Each question's answer, by the reader's verdict: the refusal, or what the definitions say of the root. Assumes nothing.
-use mathlib.Core.Path.{_≡_, refl, sym, ap, _∙_}
-use mathlib.Core.Bool.{Bool}
+use mathlib.Core.Path.{_≡_, sym, ap, _∙_}
 use mathlib.Core.List.{List}
 use Prim.Native.Nat.{ℕ, _-_, _<_, _≤_}
 use native.Mathlib.Omega.{arith}
-use lib.ListN.{length}
 use Rattle.paper.specs.declared.NodeNo.{NodeNo}
 use Rattle.paper.specs.declared.Verdict.the-variants.{Refused}
 use Rattle.paper.specs.declared.Answer.the-variants as answer
-use Rattle.paper.specs.declared.Arithmetic.{Arithmetic}
 use Rattle.paper.specs.declared.Arithmetic.the-variants as arith
 use Rattle.paper.specs.Record.{pick, node-no}
 use Rattle.paper.specs.TurnedAway.{verdict, read}

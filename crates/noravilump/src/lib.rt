@@ -24,10 +24,7 @@ fn passed_answer(v: Verdict) -> Answer
     ensures { λ r. ⌜ r ≡ answer-passed v ⌝ }
 {
     match v {
-        Verdict::Refused { number, offset } => Answer::Refused {
-            number: number,
-            offset: offset,
-        },
+        Verdict::Refused { number, offset } => Answer::Refused { number, offset },
         _ => Answer::Accepted,
     }
 }
@@ -36,10 +33,7 @@ fn passed_arithmetic(v: Verdict) -> Arithmetic
     ensures { λ r. ⌜ r ≡ arithmetic-passed v ⌝ }
 {
     match v {
-        Verdict::Refused { number, offset } => Arithmetic::Refused {
-            number: number,
-            offset: offset,
-        },
+        Verdict::Refused { number, offset } => Arithmetic::Refused { number, offset },
         _ => Arithmetic::No,
     }
 }

@@ -5,13 +5,11 @@ use mathlib.Core.Path.{_≡_, refl, sym, ap, _∙_}
 use mathlib.Core.Bool.{Bool, true, false, not, _&&_, _||_, true≢false}
 use Prim.Native.Nat.{ℕ}
 use lib.Dec.{eqb}
-use Rattle.paper.specs.declared.NameNo.{NameNo}
 use Rattle.paper.specs.declared.Subject.{Subject}
 use Rattle.paper.specs.declared.Subject.the-variants.{Name, NoName}
-use Rattle.paper.specs.declared.Tied.{Tied}
-use Rattle.paper.specs.declared.Tied.the-variants.{Left, Right, Neither}
+use Rattle.paper.specs.declared.Tied.the-variants.{Neither}
 use Rattle.paper.specs.Record.{pick}
-use Rattle.paper.specs.Sets.{Set, none, only, _∪_, _∖_}
+use Rattle.paper.specs.Sets.{Set, none, _∪_, _∖_}
 use Rattle.paper.specs.Tree.{Condition, Term, Arguments}
 use Rattle.paper.specs.Tree.Condition.{And, Or, Not, Past, Since, Exists, Comparison, Predicate, Refine, Tp, Opaque}
 use Rattle.paper.specs.Tree.Term.{Var, Wildcard, Value, Sigil, Array, Arith, Sum, Count, AggregateCall}

@@ -1,12 +1,7 @@
 -- What a node refers to, and what a well-formed row of nodes is (document 01, 'The record': "Every reference is below its own node and fits the place.
 -- Each node but the root is referred to once."). Assumes nothing: these are definitions.
-use Prim.Native.Nat.{ℕ, _+_, _<_, _≤_}
-use mathlib.Core.Path.{_≡_}
-use mathlib.Core.Bool.{Bool, true, false}
+use Prim.Native.Nat.{ℕ}
 use mathlib.Core.List.{List, [], _∷_}
-use lib.ListN.{length, getD}
-use Rattle.paper.specs.declared.NodeNo.{NodeNo}
-use Rattle.paper.specs.declared.NameNo.{NameNo}
 use Rattle.paper.specs.declared.Slot.{Slot}
 use Rattle.paper.specs.declared.Slot.the-variants as slot
 use Rattle.paper.specs.declared.Node.{Node}

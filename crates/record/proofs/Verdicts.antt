@@ -1,7 +1,7 @@
 -- What the reader's verdict says of the bytes: a refusal is the definitions', and counts are those of the contents. Assumes nothing.
 use mathlib.Core.Path.{_≡_, refl, sym, ap, _∙_}
 use mathlib.Core.List.{List}
-use Prim.Native.Nat.{ℕ, _<_, _≤_}
+use Prim.Native.Nat.{ℕ}
 use native.Mathlib.Omega.{arith}
 use lib.ListN.{length}
 use Rattle.paper.specs.declared.Verdict.the-variants.{Counts, Refused}

@@ -1,16 +1,16 @@
 -- What is known of the node that `node_at` gives: its references lie below it and fit their places, its names are in the table, and its tree is made
 -- from the trees of its references. Assumes nothing.
 use mathlib.Core.Path.{_≡_, refl, sym, ap, _∙_, subst}
-use mathlib.Core.Bool.{Bool, true}
-use mathlib.Core.List.{List, [], _∷_}
-use Prim.Native.Nat.{ℕ, _<_, _≤_}
+use mathlib.Core.Bool.{true}
+use mathlib.Core.List.{List}
+use Prim.Native.Nat.{ℕ, _<_}
 use native.Mathlib.Omega.{arith}
 use lib.ListN.{length, getD}
 use Rattle.paper.specs.declared.NodeNo.{NodeNo}
 use Rattle.paper.specs.declared.Node.{Node}
 use Rattle.paper.specs.declared.Node.the-variants.{And, Or, Not, Formerly, Previous, Since, Exists, Comparison, Predicate, Refine, Tp, Call, SigilRef, Var, Wildcard, Literal, ScopeField, ContextField, ParamRef, BinderRef, Array, Arith, Sum, Count, AggregateCall, ListEnd, ArgumentCell, ItemCell, BinderCell}
 use Rattle.paper.specs.Record.{Sort, node-no}
-use Rattle.paper.specs.Tree.{Tree, planted, trees, tree-at}
+use Rattle.paper.specs.Tree.{Tree, planted, trees}
 use Rattle.paper.specs.Shape.{references, names-in}
 use Rattle.paper.proofs.Walks.{All, all-map}
 use Rattle.paper.proofs.Weights.{of-sort}

@@ -2,7 +2,7 @@
 use mathlib.Core.Path.{_≡_, refl, sym}
 use mathlib.Core.Bool.{true, true≢false}
 use Rattle.paper.specs.declared.NodeNo.{NodeNo}
-use Rattle.paper.specs.Record.{condition, term, arguments, items, binders}
+use Rattle.paper.specs.Record.{term, arguments, items, binders}
 use Rattle.paper.specs.Tree as tree
 use Rattle.paper.specs.Tree.{Term, Arguments, Items, Tree, a-condition, a-term, an-end, as-term, as-arguments, as-items}
 use Rattle.paper.specs.Tree.Arguments.{no-argument}

@@ -1,2 +1,3 @@
--- The trees of the nodes of some bytes.
+-- The trees of the nodes of some bytes, and what is said of their terms.
 pub mod Trees
+pub mod Terms

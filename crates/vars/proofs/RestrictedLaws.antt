@@ -1,6 +1,6 @@
 -- What `term_contains_wildcard`, `bare_var`, `is_restrictor`, `direct_vars` and `collect_range_restricted` find at a node. Assumes nothing.
 use mathlib.Core.Path.{_≡_, refl, sym, ap, _∙_, subst}
-use mathlib.Core.Bool.{Bool, true, false, not, _||_, true≢false}
+use mathlib.Core.Bool.{Bool, true, false, not, true≢false, _||_}
 use mathlib.Core.List.{List, [], _∷_}
 use Prim.Native.Nat.{ℕ, _<_}
 use native.Mathlib.Omega.{arith}
@@ -32,7 +32,7 @@ use Rattle.trees.proofs.Arms.{Arm, arm}
 use Rattle.trees.proofs.Shapes.{Anchor, formerly, previous, since}
 use Rattle.trees.proofs.ByKind.{term-kinds, no-other, condition-cases, term-cases, arguments-cases, in-terms-cases}
 use Rattle.trees.proofs.Joins.{JoinsTerms, none-joins}
-use Rattle.vars.specs.Terms.{arguments-wildcard, wildcard-in}
+use Rattle.trees.specs.Terms.{arguments-wildcard, wildcard-in}
 
 -- ---- wildcards
 

@@ -4,7 +4,7 @@ use std::ops::RangeInclusive;
 use std::process::ExitCode;
 
 use plain::answers::{arithmetic, closedness, demands, scoping, Answer};
-use plain::cases::{of_document_01, Case};
+use plain::cases::{all, Case};
 use plain::lists::Entry;
 use plain::Record;
 
@@ -24,7 +24,7 @@ fn main() -> ExitCode {
 }
 
 fn run() -> Result<usize, String> {
-    let cases = of_document_01()?;
+    let cases = all()?;
     let mut differences = 0;
     for case in &cases {
         differences += run_case(case)?;

@@ -1,12 +1,12 @@
 //! The computed claim of the definitions stands on the bytes that the Rust is run on here.
 
-use plain::cases::of_document_01;
+use plain::cases::all;
 
 const CLAIM: &str = include_str!("../../../crates/paper/proofs/Cases.antt");
 
 #[test]
 fn the_claim_has_the_bytes_of_each_case() {
-    for case in of_document_01().unwrap() {
+    for case in all().unwrap() {
         assert_eq!(
             bytes_in_the_claim(&case.label),
             case.bytes,

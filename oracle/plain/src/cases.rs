@@ -9,7 +9,7 @@ pub struct Case {
     pub arithmetic: bool,
 }
 
-pub fn of_document_01() -> Result<Vec<Case>, String> {
+pub fn all() -> Result<Vec<Case>, String> {
     parse(include_str!("../../cases.txt"))
 }
 

@@ -3,7 +3,7 @@ mod common;
 
 use agreement::assert_the_rust_agrees;
 use common::{ended, full_record};
-use plain::cases::{of_document_01, parse, Case};
+use plain::cases::{all, parse, Case};
 use plain::lists::{arithmetic, list, pack, scoping, Entry};
 use plain::{read, Record};
 
@@ -27,9 +27,9 @@ fn assert_listed(cases: &[Case]) {
 }
 
 #[test]
-fn the_cases_of_document_01() {
-    let cases = of_document_01().unwrap();
-    assert_eq!(cases.len(), 13);
+fn the_cases_of_document_01_and_ours() {
+    let cases = all().unwrap();
+    assert_eq!(cases.len(), 18);
     assert_listed(&cases);
 }
 

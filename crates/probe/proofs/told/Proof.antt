@@ -1,5 +1,4 @@
 -- `told` puts three numbers side by side.
-use mathlib.Core.Path.{refl}
 use borrow.Author.Needs.{needs}
 use Rattle.probe.proofs.told.Statement.{statement}
 use Rattle.probe.proofs.told.Tie as tie
