@@ -122,7 +122,8 @@ impl Record {
         }
     }
 
-    fn has_wildcard(&self, number: NodeNumber) -> bool {
+    /// Of a term or a list of items, through arithmetic and arrays.
+    pub fn has_wildcard(&self, number: NodeNumber) -> bool {
         match self.node(number) {
             Node::Wildcard => true,
             Node::Arith { left, right, .. } => self.has_wildcard(left) || self.has_wildcard(right),

@@ -144,6 +144,41 @@ pub enum Node {
 }
 
 impl Node {
+    /// Document 01's byte of kind.
+    pub fn kind(&self) -> u8 {
+        match self {
+            Node::And { .. } => 0x10,
+            Node::Or { .. } => 0x11,
+            Node::Not { .. } => 0x12,
+            Node::Formerly { .. } => 0x13,
+            Node::Previous { .. } => 0x14,
+            Node::Since { .. } => 0x15,
+            Node::Exists { .. } => 0x16,
+            Node::Comparison { .. } => 0x17,
+            Node::Predicate { .. } => 0x18,
+            Node::Refine { .. } => 0x19,
+            Node::Tp { .. } => 0x1A,
+            Node::Call { .. } => 0x1B,
+            Node::SigilRef { .. } => 0x1C,
+            Node::Var { .. } => 0x20,
+            Node::Wildcard => 0x21,
+            Node::Literal { .. } => 0x22,
+            Node::ScopeField { .. } => 0x23,
+            Node::ContextField { .. } => 0x24,
+            Node::ParamRef { .. } => 0x25,
+            Node::BinderRef { .. } => 0x26,
+            Node::Array { .. } => 0x27,
+            Node::Arith { .. } => 0x28,
+            Node::Sum { .. } => 0x29,
+            Node::Count { .. } => 0x2A,
+            Node::AggregateCall { .. } => 0x2B,
+            Node::ListEnd => 0x30,
+            Node::ArgumentCell { .. } => 0x31,
+            Node::ItemCell { .. } => 0x32,
+            Node::BinderCell { .. } => 0x33,
+        }
+    }
+
     pub fn children(&self) -> Vec<NodeNumber> {
         match *self {
             Node::And { left, right }
