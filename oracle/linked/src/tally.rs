@@ -1,0 +1,57 @@
+//! What a run has met.
+
+use crate::answers::Answers;
+use crate::Reading;
+
+#[derive(Default)]
+pub struct Tally {
+    accepted: usize,
+    refused: [usize; 13],
+    not_closed: usize,
+    with_arithmetic: usize,
+}
+
+impl Tally {
+    pub fn add(&mut self, reading: &Reading, answers: &Answers) {
+        match reading {
+            Ok(_) => {
+                self.accepted += 1;
+                self.not_closed += usize::from(answers.is_not_closed());
+                self.with_arithmetic += usize::from(answers.has_arithmetic());
+            }
+            Err(refusal) => self.refused[refusal.number as usize - 1] += 1,
+        }
+    }
+
+    pub fn lines(&self) -> Vec<String> {
+        let answers = self
+            .answers()
+            .map(|(answer, count)| format!("{answer} {count}"));
+        vec![
+            format!(
+                "accepted {}, refused by number 1 to 13: {:?}",
+                self.accepted, self.refused
+            ),
+            format!("answers: {}", answers.join(", ")),
+        ]
+    }
+
+    /// The answers that no record had.
+    pub fn never_met(&self) -> Vec<String> {
+        let answers = self
+            .answers()
+            .into_iter()
+            .filter(|(_, count)| *count == 0)
+            .map(|(answer, _)| answer.to_string());
+        answers.collect()
+    }
+
+    fn answers(&self) -> [(&'static str, usize); 4] {
+        [
+            ("closedness 28", self.not_closed),
+            ("closedness accepted", self.accepted - self.not_closed),
+            ("arithmetic yes", self.with_arithmetic),
+            ("arithmetic no", self.accepted - self.with_arithmetic),
+        ]
+    }
+}
