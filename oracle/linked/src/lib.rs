@@ -2,6 +2,7 @@
 
 pub mod answers;
 pub mod records;
+pub mod shapes;
 pub mod tally;
 
 use plain::{Record, Refusal};

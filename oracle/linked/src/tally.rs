@@ -1,6 +1,7 @@
 //! What a run has met.
 
 use crate::answers::Answers;
+use crate::shapes::Shapes;
 use crate::Reading;
 
 #[derive(Default)]
@@ -9,15 +10,17 @@ pub struct Tally {
     refused: [usize; 13],
     not_closed: usize,
     with_arithmetic: usize,
+    shapes: Shapes,
 }
 
 impl Tally {
     pub fn add(&mut self, reading: &Reading, answers: &Answers) {
         match reading {
-            Ok(_) => {
+            Ok(record) => {
                 self.accepted += 1;
                 self.not_closed += usize::from(answers.is_not_closed());
                 self.with_arithmetic += usize::from(answers.has_arithmetic());
+                self.shapes.add(record);
             }
             Err(refusal) => self.refused[refusal.number as usize - 1] += 1,
         }
@@ -27,23 +30,25 @@ impl Tally {
         let answers = self
             .answers()
             .map(|(answer, count)| format!("{answer} {count}"));
-        vec![
+        let mut lines = vec![
             format!(
                 "accepted {}, refused by number 1 to 13: {:?}",
                 self.accepted, self.refused
             ),
             format!("answers: {}", answers.join(", ")),
-        ]
+        ];
+        lines.extend(self.shapes.lines());
+        lines
     }
 
-    /// The answers that no record had.
+    /// The answers and shapes that no record had.
     pub fn never_met(&self) -> Vec<String> {
         let answers = self
             .answers()
             .into_iter()
             .filter(|(_, count)| *count == 0)
             .map(|(answer, _)| answer.to_string());
-        answers.collect()
+        answers.chain(self.shapes.never_met()).collect()
     }
 
     fn answers(&self) -> [(&'static str, usize); 4] {

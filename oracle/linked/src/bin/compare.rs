@@ -12,7 +12,7 @@ use linked::{name_length, plain_name_length, plain_read, read, Reading};
 use plain::random::{damaged, noise, record, Rng};
 
 const USAGE: &str = "usage: compare N SEED";
-/// So many inputs meet every answer, or the inputs have gone blind.
+/// So many inputs meet every answer and every shape, or the inputs have gone blind.
 const ENOUGH_TO_MEET_ALL: usize = 100_000;
 
 fn main() -> ExitCode {

@@ -1,0 +1,39 @@
+use linked::answers::Answers;
+use linked::tally::Tally;
+use plain::cases::of_document_01;
+use plain::read;
+
+const ANSWERS: [&str; 4] = [
+    "closedness 28",
+    "closedness accepted",
+    "arithmetic yes",
+    "arithmetic no",
+];
+
+#[test]
+fn an_empty_run_has_met_no_answer_and_no_shape() {
+    let never = Tally::default().never_met();
+    assert_eq!(never[..4], ANSWERS);
+    assert_eq!(never.len(), 4 + 29 + 14);
+}
+
+#[test]
+fn the_cases_of_document_01_and_one_refusal_are_counted() {
+    let mut tally = Tally::default();
+    let mut add = |bytes: &[u8]| tally.add(&read(bytes), &Answers::of_the_proved(bytes));
+    for case in of_document_01().unwrap() {
+        add(&case.bytes);
+    }
+    add(&[0x01, 0x02]);
+    assert_eq!(
+        tally.lines()[..2],
+        [
+            "accepted 13, refused by number 1 to 13: [0, 0, 1, 0, 0, 0, 0, 0, 0, 0, 0, 0, 0]",
+            "answers: closedness 28 3, closedness accepted 10, arithmetic yes 1, arithmetic no 12",
+        ]
+    );
+    let never = tally.never_met();
+    assert!(ANSWERS
+        .iter()
+        .all(|&answer| !never.contains(&answer.to_string())));
+}
