@@ -1,6 +1,6 @@
 use linked::answers::Answers;
 use linked::{arithmetic, closedness, Asked, NO_NAME};
-use plain::cases::{of_document_01, Case};
+use plain::cases::{all, Case};
 use plain::read;
 
 const NOTHING: Asked = Asked {
@@ -26,8 +26,8 @@ fn of_the_case(case: &Case) -> Answers {
 }
 
 #[test]
-fn all_agree_on_the_cases_of_document_01() {
-    for case in of_document_01().unwrap() {
+fn all_agree_on_the_cases_all() {
+    for case in all().unwrap() {
         let expected = of_the_case(&case);
         let reading = read(&case.bytes);
         let label = &case.label;
@@ -39,7 +39,7 @@ fn all_agree_on_the_cases_of_document_01() {
 
 #[test]
 fn every_cut_of_a_case_is_passed_up_as_it_is_refused() {
-    for case in of_document_01().unwrap() {
+    for case in all().unwrap() {
         for length in 0..case.bytes.len() {
             let cut = &case.bytes[..length];
             let refusal = read(cut).unwrap_err();
