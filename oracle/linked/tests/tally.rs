@@ -1,6 +1,6 @@
 use linked::answers::Answers;
 use linked::tally::Tally;
-use plain::cases::of_document_01;
+use plain::cases::all;
 use plain::read;
 
 const ANSWERS: [&str; 4] = [
@@ -18,18 +18,18 @@ fn an_empty_run_has_met_no_answer_and_no_shape() {
 }
 
 #[test]
-fn the_cases_of_document_01_and_one_refusal_are_counted() {
+fn the_cases_and_one_refusal_are_counted() {
     let mut tally = Tally::default();
     let mut add = |bytes: &[u8]| tally.add(&read(bytes), &Answers::of_the_proved(bytes));
-    for case in of_document_01().unwrap() {
+    for case in all().unwrap() {
         add(&case.bytes);
     }
     add(&[0x01, 0x02]);
     assert_eq!(
         tally.lines()[..2],
         [
-            "accepted 13, refused by number 1 to 13: [0, 0, 1, 0, 0, 0, 0, 0, 0, 0, 0, 0, 0]",
-            "answers: closedness 28 3, closedness accepted 10, arithmetic yes 1, arithmetic no 12",
+            "accepted 18, refused by number 1 to 13: [0, 0, 1, 0, 0, 0, 0, 0, 0, 0, 0, 0, 0]",
+            "answers: closedness 28 4, closedness accepted 14, arithmetic yes 1, arithmetic no 17",
         ]
     );
     let never = tally.never_met();

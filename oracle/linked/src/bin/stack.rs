@@ -6,7 +6,7 @@ use std::ptr;
 use std::thread;
 
 use linked::records::{balanced, chain};
-use linked::{name_length, read};
+use linked::{arithmetic, closedness, name_length, read, Asked};
 
 const MOST: usize = 48 * 1024;
 /// Painted below the caller, and left out because the painter stands there itself.
@@ -20,7 +20,7 @@ fn main() -> ExitCode {
     let used = [
         (
             "reading 64 deep",
-            on_own_stack(deep, |bytes| read(bytes).place),
+            on_own_stack(deep.clone(), |bytes| read(bytes).place),
         ),
         (
             "reading 128 names and 511 nodes",
@@ -29,6 +29,14 @@ fn main() -> ExitCode {
         (
             "the name lookup in it",
             on_own_stack(wide, |bytes| name_length(bytes, 127)),
+        ),
+        (
+            "closedness 64 deep",
+            on_own_stack(deep.clone(), |bytes| accepted(closedness(bytes))),
+        ),
+        (
+            "the arithmetic test 64 deep",
+            on_own_stack(deep, |bytes| accepted(arithmetic(bytes))),
         ),
     ];
     for (what, bytes) in used {
@@ -39,6 +47,11 @@ fn main() -> ExitCode {
         return ExitCode::FAILURE;
     }
     ExitCode::SUCCESS
+}
+
+/// Not 0, as every question here answers where it accepts.
+fn accepted(answer: Asked) -> usize {
+    usize::from(answer.number == 0)
 }
 
 /// A thread of its own, so that what is painted belongs to nobody.
