@@ -43,16 +43,17 @@ impl Shapes {
         format!("records with: {}", counts.join(", "))
     }
 
-    pub fn never_met(&self) -> Vec<String> {
+    /// Those that at most so many records had.
+    pub fn seldom_met(&self, most: usize) -> Vec<String> {
         let kinds = KINDS
             .into_iter()
             .flatten()
-            .filter(|&kind| self.with_kind(kind) == 0)
+            .filter(|&kind| self.with_kind(kind) <= most)
             .map(|kind| format!("kind {kind:02X}"));
         let others = GROUPS
             .into_iter()
             .flatten()
-            .filter(|shape| self.with_shape(shape) == 0)
+            .filter(|shape| self.with_shape(shape) <= most)
             .map(|shape| shape.label.to_string());
         kinds.chain(others).collect()
     }

@@ -253,7 +253,7 @@ fn free_name_above_63() {
 #[test]
 fn each_record_counts_once_and_what_it_has_is_met() {
     let mut shapes = Shapes::default();
-    let all = shapes.never_met();
+    let all = shapes.seldom_met(0);
     assert_eq!(all.len(), 29 + 14);
     // exists ?0. tp(x)
     let sigil = record(&["x"], &[TP_X, &[0x16, 1, 0, 0, 0, 0]]);
@@ -266,7 +266,7 @@ fn each_record_counts_once_and_what_it_has_is_met() {
         .into_iter()
         .filter(|shape| !met.contains(&shape.as_str()))
         .collect();
-    assert_eq!(shapes.never_met(), never);
+    assert_eq!(shapes.seldom_met(0), never);
     assert_eq!(
         shapes.lines()[0],
         "records with each kind from 10 to 1C: [0, 0, 0, 0, 0, 0, 2, 0, 0, 0, 1, 1, 0]"

@@ -12,9 +12,9 @@ const ANSWERS: [&str; 4] = [
 
 #[test]
 fn an_empty_run_has_met_no_answer_and_no_shape() {
-    let never = Tally::default().never_met();
-    assert_eq!(never[..4], ANSWERS);
-    assert_eq!(never.len(), 4 + 29 + 14);
+    let seldom = Tally::default().seldom_met();
+    assert_eq!(seldom[..4], ANSWERS);
+    assert_eq!(seldom.len(), 4 + 29 + 14);
 }
 
 #[test]
@@ -32,8 +32,8 @@ fn the_cases_and_one_refusal_are_counted() {
             "answers: closedness 28 4, closedness accepted 14, arithmetic yes 1, arithmetic no 17",
         ]
     );
-    let never = tally.never_met();
+    let seldom = tally.seldom_met();
     assert!(ANSWERS
         .iter()
-        .all(|&answer| !never.contains(&answer.to_string())));
+        .all(|&answer| !seldom.contains(&answer.to_string())));
 }
