@@ -14,8 +14,7 @@ use Rattle.paper.specs.declared.Node.{Node}
 use Rattle.paper.specs.declared.Node.the-variants as node
 use Rattle.paper.specs.Sets.{none, only, _∪_, _∖_}
 use Rattle.paper.specs.Record.{node-no}
-use Rattle.paper.specs.Tree.{Condition, Term, Arguments, Tree, as-condition, as-binders, planted}
-use Rattle.paper.specs.Tree.Condition.{Comparison, Predicate, Refine}
+use Rattle.paper.specs.Tree.{Tree, as-condition, as-binders, planted}
 use Rattle.paper.specs.Shape.{slot-names}
 use Rattle.paper.specs.FreeAndRestricted.{named, binder-names, free, term-free, arguments-free, items-free}
 use Rattle.paper.proofs.Walks.{All}
@@ -23,7 +22,7 @@ use Rattle.trees.specs.Trees.{tree-of, condition-of, binders-of, in-terms}
 use Rattle.trees.proofs.Arms.{Arm}
 use Rattle.trees.proofs.Shapes.{Aggregate, sum, count}
 use Rattle.trees.proofs.ByKind.{condition-cases, binders-cases, in-terms-cases}
-use Rattle.trees.proofs.Joins.{JoinsTwo, PassesOne, JoinsTerms}
+use Rattle.trees.proofs.Joins.{JoinsTwo, PassesOne, JoinsFields, JoinsTerms}
 use Rattle.trees.specs.Terms.{Tabled, free-in}
 
 -- a slot's name is in the table where the slot's names are
@@ -46,17 +45,9 @@ pub free-one : PassesOne free
 unfolding free
 free-one = record { not = λ n b. refl; past = λ n k b w. refl }
 
-pub free-comparison : (n : NodeNo) (o : ℕ) (l r : Term) → free (Comparison n o l r) ≡ term-free l ∪ term-free r
+pub free-fields : JoinsFields free term-free arguments-free _∪_
 unfolding free
-free-comparison n o l r = refl
-
-pub free-predicate : (n : NodeNo) (k : ℕ) (l : Arguments) → free (Predicate n k l) ≡ arguments-free l
-unfolding free
-free-predicate n k l = refl
-
-pub free-refine : (n : NodeNo) (b : Condition) (l : Arguments) → free (Refine n b l) ≡ free b ∪ arguments-free l
-unfolding free
-free-refine n b l = refl
+free-fields = record { comparison = λ n o l r. refl; predicate = λ n k l. refl; refine = λ n b l. refl }
 
 pub free-terms : JoinsTerms term-free arguments-free items-free none _∪_
 unfolding term-free

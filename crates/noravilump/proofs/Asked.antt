@@ -4,11 +4,12 @@ use mathlib.Core.List.{List}
 use Prim.Native.Nat.{ℕ, _-_, _<_, _≤_}
 use native.Mathlib.Omega.{arith}
 use Rattle.paper.specs.declared.NodeNo.{NodeNo}
-use Rattle.paper.specs.declared.Verdict.the-variants.{Refused}
+use Rattle.paper.specs.declared.Verdict.the-variants.{Counts, Refused}
 use Rattle.paper.specs.declared.Answer.the-variants as answer
 use Rattle.paper.specs.declared.Arithmetic.the-variants as arith
 use Rattle.paper.specs.Record.{pick, node-no}
-use Rattle.paper.specs.TurnedAway.{verdict, read}
+use Rattle.paper.specs.TurnedAway as outcome
+use Rattle.paper.specs.TurnedAway.{read}
 use Rattle.paper.specs.Tree.{root-no, root}
 use Rattle.paper.specs.FreeAndRestricted.{free}
 use Rattle.paper.specs.Places.{for-names, findings}
@@ -18,48 +19,55 @@ use Rattle.record.specs.declared.reader.Reading.{Reading}
 use Rattle.record.specs.Arena.{Read}
 use Rattle.record.specs.Stored.{contents, Has}
 use Rattle.record.proofs.StoredLaws.{read-stored}
-use Rattle.record.proofs.Verdicts.{refused-is, Told}
+use Rattle.record.proofs.Verdicts.{refused-is, Told, counts-are}
 use Rattle.trees.specs.Trees.{condition-of}
 
 -- ---- a refusal
 
-module _ (bytes : List ℕ) {n o : ℕ} (e : verdict (read bytes) ≡ Refused n o) where
+module _ (bytes : List ℕ) (r : Reading) (p : Read bytes r) {n o : ℕ} (e : r .verdict ≡ Refused n o) where
+  refused : read bytes ≡ outcome.refused n o
+  refused = refused-is bytes (sym (p .said) ∙ e)
+
   pub closedness-refused : closedness bytes ≡ answer.Refused n o
   unfolding closedness answered
-  closedness-refused = ap (answered closedness-part) (refused-is bytes e)
+  closedness-refused = ap (answered closedness-part) refused
 
   pub arithmetic-refused : arithmetic bytes ≡ arith.Refused n o
   unfolding arithmetic arithmetic-of
-  arithmetic-refused = ap arithmetic-of (refused-is bytes e)
+  arithmetic-refused = ap arithmetic-of refused
 
 -- ---- accepted bytes of k nodes
 
-module _ (bytes : List ℕ) {n k : ℕ} (t : Told bytes n k) where
+module _ (bytes : List ℕ) (r : Reading) (p : Read bytes r) {n k : ℕ} (e : r .verdict ≡ Counts n k) where
+  told : Told bytes n k
+  told = counts-are bytes (sym (p .said) ∙ e)
+
   pub some-root : (0 < k) × (k ≤ 512)
   some-root =
-      let long = t .nodes-are in
-      let some = t .formed .some-node in
-      let few = t .formed .few-nodes in
+      let long = told .nodes-are in
+      let some = told .formed .some-node in
+      let few = told .formed .few-nodes in
       (omega arith, omega arith)
 
-  pub has-root : (r : Reading) → Read bytes r → (i : NodeNo) → i ≡ node-no (k - 1) → Has bytes (r .arena .starts) (i .0)
-  has-root r p i e =
-      let long = t .nodes-are in
-      let some = t .formed .some-node in
-      let here : i .0 ≡ k - 1 = ap (λ (m : NodeNo). m .0) e in
-      (read-stored bytes r p, omega arith)
-
-  last-node : root-no (contents bytes) ≡ node-no (k - 1)
+  last-node : (i : NodeNo) → i ≡ node-no (k - 1) → root-no (contents bytes) ≡ i
   unfolding root-no
-  last-node = ap (λ (m : ℕ). node-no (m - 1)) (t .nodes-are)
+  last-node i d = ap (λ (m : ℕ). node-no (m - 1)) (told .nodes-are) ∙ sym d
 
-  pub closedness-told : (i : NodeNo) → i ≡ node-no (k - 1) → closedness bytes ≡ first (findings (for-names 28 i (free (condition-of bytes (i .0)))))
-  unfolding closedness answered closedness-part closedness-broken root
-  closedness-told i e =
-      ap (answered closedness-part) (t .outcome)
-      ∙ ap (λ (m : NodeNo). first (findings (for-names 28 m (free (condition-of bytes (m .0)))))) (last-node ∙ sym e)
+  module _ (i : NodeNo) (d : i ≡ node-no (k - 1)) where
+    pub has-root : Has bytes (r .arena .starts) (i .0)
+    has-root =
+        let long = told .nodes-are in
+        let some = told .formed .some-node in
+        let here : i .0 ≡ k - 1 = ap (λ (m : NodeNo). m .0) d in
+        (read-stored bytes r p, omega arith)
 
-  pub arithmetic-told : (i : NodeNo) → i ≡ node-no (k - 1) → arithmetic bytes ≡ pick (has-arith (condition-of bytes (i .0))) arith.Yes arith.No
-  unfolding arithmetic arithmetic-of root
-  arithmetic-told i e =
-      ap arithmetic-of (t .outcome) ∙ ap (λ (m : NodeNo). pick (has-arith (condition-of bytes (m .0))) arith.Yes arith.No) (last-node ∙ sym e)
+    pub closedness-told : closedness bytes ≡ first (findings (for-names 28 i (free (condition-of bytes (i .0)))))
+    unfolding closedness answered closedness-part closedness-broken root
+    closedness-told =
+        ap (answered closedness-part) (told .outcome)
+        ∙ ap (λ (m : NodeNo). first (findings (for-names 28 m (free (condition-of bytes (m .0)))))) (last-node i d)
+
+    pub arithmetic-told : arithmetic bytes ≡ pick (has-arith (condition-of bytes (i .0))) arith.Yes arith.No
+    unfolding arithmetic arithmetic-of root
+    arithmetic-told =
+        ap arithmetic-of (told .outcome) ∙ ap (λ (m : NodeNo). pick (has-arith (condition-of bytes (m .0))) arith.Yes arith.No) (last-node i d)

@@ -13,14 +13,14 @@ use Rattle.paper.specs.declared.Slot.the-variants.{Name, Param, Binder}
 use Rattle.paper.specs.declared.Node.{Node}
 use Rattle.paper.specs.declared.Node.the-variants as node
 use Rattle.paper.specs.Record.{node-no}
-use Rattle.paper.specs.Tree.{Condition, Term, Arguments, Tree, as-condition, planted}
-use Rattle.paper.specs.Tree.Condition.{Exists, Comparison, Predicate, Refine}
+use Rattle.paper.specs.Tree.{Condition, Tree, as-condition, planted}
+use Rattle.paper.specs.Tree.Condition.{Exists}
 use Rattle.paper.specs.FreeAndRestricted.{is-sigil, holds-sigil, term-sigil, arguments-sigil, items-sigil}
 use Rattle.trees.specs.Trees.{tree-of, condition-of, in-terms}
 use Rattle.trees.proofs.Arms.{Arm}
 use Rattle.trees.proofs.Shapes.{Aggregate, sum, count}
 use Rattle.trees.proofs.ByKind.{condition-kinds, kinds-in-terms, no-other, condition-cases, in-terms-cases}
-use Rattle.trees.proofs.Joins.{JoinsTwo, PassesOne, JoinsTerms}
+use Rattle.trees.proofs.Joins.{JoinsTwo, PassesOne, JoinsFields, JoinsTerms}
 use Rattle.trees.specs.Terms.{sigil-in}
 
 pub sigil-slot : (s : Slot) → OneOf (1 ∷ 2 ∷ []) (tagOf slot-type s) → is-sigil s ≡ true
@@ -41,17 +41,9 @@ pub sigil-exists : (n : NodeNo) (s : Slot) (y : ℕ) (b : Condition) → holds-s
 unfolding holds-sigil
 sigil-exists n s y b = refl
 
-pub sigil-comparison : (n : NodeNo) (o : ℕ) (l r : Term) → holds-sigil (Comparison n o l r) ≡ (term-sigil l || term-sigil r)
+pub sigil-fields : JoinsFields holds-sigil term-sigil arguments-sigil _||_
 unfolding holds-sigil
-sigil-comparison n o l r = refl
-
-pub sigil-predicate : (n : NodeNo) (k : ℕ) (l : Arguments) → holds-sigil (Predicate n k l) ≡ arguments-sigil l
-unfolding holds-sigil
-sigil-predicate n k l = refl
-
-pub sigil-refine : (n : NodeNo) (b : Condition) (l : Arguments) → holds-sigil (Refine n b l) ≡ (holds-sigil b || arguments-sigil l)
-unfolding holds-sigil
-sigil-refine n b l = refl
+sigil-fields = record { comparison = λ n o l r. refl; predicate = λ n k l. refl; refine = λ n b l. refl }
 
 pub sigil-terms : JoinsTerms term-sigil arguments-sigil items-sigil false _||_
 unfolding term-sigil

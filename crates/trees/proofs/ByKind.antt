@@ -58,6 +58,68 @@ no-other (k ∷ l ∷ ks) ls x e h f = go (λ e h. no-other (l ∷ ks) ls x e h 
     go later true d e (inr h) = later e h
     go later false d e h = true≢false (sym e)
 
+-- every kind by itself
+module _ (P : Node → Type 0)
+    (and : (l r : NodeNo) → P (node.And l r))
+    (or : (l r : NodeNo) → P (node.Or l r))
+    (not : (b : NodeNo) → P (node.Not b))
+    (formerly : (b : NodeNo) (w : ℕ) → P (node.Formerly b w))
+    (previous : (b : NodeNo) (w : ℕ) → P (node.Previous b w))
+    (since : (l r : NodeNo) (w : ℕ) → P (node.Since l r w))
+    (exists : (s : Slot) (y : ℕ) (b : NodeNo) → P (node.Exists s y b))
+    (comparison : (o : ℕ) (l r : NodeNo) → P (node.Comparison o l r))
+    (predicate : (a : ℕ) (l : NodeNo) → P (node.Predicate a l))
+    (refine : (b l : NodeNo) → P (node.Refine b l))
+    (tp : (s : Slot) → P (node.Tp s))
+    (call : (y : ℕ) → P (node.Call y))
+    (sigil-ref : (y : ℕ) → P (node.SigilRef y))
+    (var : (x : NameNo) → P (node.Var x))
+    (wildcard : P node.Wildcard)
+    (literal : (y : ℕ) → P (node.Literal y))
+    (scope : (y : ℕ) → P (node.ScopeField y))
+    (context : (y : ℕ) → P (node.ContextField y))
+    (param : (k : ℕ) → P (node.ParamRef k))
+    (binder-ref : (k : ℕ) → P (node.BinderRef k))
+    (array : (l : NodeNo) → P (node.Array l))
+    (arith : (o : ℕ) (l r : NodeNo) → P (node.Arith o l r))
+    (sum : (s : Slot) (l b : NodeNo) → P (node.Sum s l b))
+    (count : (l b : NodeNo) → P (node.Count l b))
+    (agg : (y : ℕ) → P (node.AggregateCall y))
+    (end : P node.ListEnd)
+    (arg : (f : ℕ) (x l : NodeNo) → P (node.ArgumentCell f x l))
+    (item : (x l : NodeNo) → P (node.ItemCell x l))
+    (cell : (s : Slot) (y : ℕ) (l : NodeNo) → P (node.BinderCell s y l)) where
+  by-kind : (m : Node) → P m
+  by-kind (node.And l r) = and l r
+  by-kind (node.Or l r) = or l r
+  by-kind (node.Not b) = not b
+  by-kind (node.Formerly b w) = formerly b w
+  by-kind (node.Previous b w) = previous b w
+  by-kind (node.Since l r w) = since l r w
+  by-kind (node.Exists s y b) = exists s y b
+  by-kind (node.Comparison o l r) = comparison o l r
+  by-kind (node.Predicate a l) = predicate a l
+  by-kind (node.Refine b l) = refine b l
+  by-kind (node.Tp s) = tp s
+  by-kind (node.Call y) = call y
+  by-kind (node.SigilRef y) = sigil-ref y
+  by-kind (node.Var x) = var x
+  by-kind node.Wildcard = wildcard
+  by-kind (node.Literal y) = literal y
+  by-kind (node.ScopeField y) = scope y
+  by-kind (node.ContextField y) = context y
+  by-kind (node.ParamRef k) = param k
+  by-kind (node.BinderRef k) = binder-ref k
+  by-kind (node.Array l) = array l
+  by-kind (node.Arith o l r) = arith o l r
+  by-kind (node.Sum s l b) = sum s l b
+  by-kind (node.Count l b) = count l b
+  by-kind (node.AggregateCall y) = agg y
+  by-kind node.ListEnd = end
+  by-kind (node.ArgumentCell f x l) = arg f x l
+  by-kind (node.ItemCell x l) = item x l
+  by-kind (node.BinderCell s y l) = cell s y l
+
 -- a condition
 module _ (t : ℕ → Tree) (n : NodeNo) (P : Node → Condition → Type 0)
     (and : (l : NodeNo) (r : NodeNo) → P (node.And l r) (And n (as-condition (t (l .0))) (as-condition (t (r .0)))))
@@ -76,35 +138,12 @@ module _ (t : ℕ → Tree) (n : NodeNo) (P : Node → Condition → Type 0)
     (other : (m : Node) → hasKey condition-kinds (tagOf the-type m) ≡ false → P m (Predicate (node-no 0) 0 (no-argument (node-no 0)))) where
   pub condition-cases : (m : Node) → P m (as-condition (planted t n m))
   unfolding planted as-condition
-  condition-cases (node.And l r) = and l r
-  condition-cases (node.Or l r) = or l r
-  condition-cases (node.Not b) = not b
-  condition-cases (node.Formerly b w) = formerly b w
-  condition-cases (node.Previous b w) = previous b w
-  condition-cases (node.Since l r w) = since l r w
-  condition-cases (node.Exists s y b) = exists s y b
-  condition-cases (node.Comparison o l r) = comparison o l r
-  condition-cases (node.Predicate a l) = predicate a l
-  condition-cases (node.Refine b l) = refine b l
-  condition-cases (node.Tp s) = tp s
-  condition-cases (node.Call y) = call y
-  condition-cases (node.SigilRef y) = sigil-ref y
-  condition-cases (node.Var x) = other (node.Var x) refl
-  condition-cases node.Wildcard = other node.Wildcard refl
-  condition-cases (node.Literal y) = other (node.Literal y) refl
-  condition-cases (node.ScopeField y) = other (node.ScopeField y) refl
-  condition-cases (node.ContextField y) = other (node.ContextField y) refl
-  condition-cases (node.ParamRef k) = other (node.ParamRef k) refl
-  condition-cases (node.BinderRef k) = other (node.BinderRef k) refl
-  condition-cases (node.Array l) = other (node.Array l) refl
-  condition-cases (node.Arith o l r) = other (node.Arith o l r) refl
-  condition-cases (node.Sum s l b) = other (node.Sum s l b) refl
-  condition-cases (node.Count l b) = other (node.Count l b) refl
-  condition-cases (node.AggregateCall y) = other (node.AggregateCall y) refl
-  condition-cases node.ListEnd = other node.ListEnd refl
-  condition-cases (node.ArgumentCell f x l) = other (node.ArgumentCell f x l) refl
-  condition-cases (node.ItemCell x l) = other (node.ItemCell x l) refl
-  condition-cases (node.BinderCell s y l) = other (node.BinderCell s y l) refl
+  condition-cases =
+      by-kind (λ (m : Node). P m (as-condition (planted t n m)))
+      and or not formerly previous since exists comparison predicate refine tp call sigil-ref (λ x. other _ refl) (other _ refl) (λ y. other _ refl)
+      (λ y. other _ refl) (λ y. other _ refl) (λ k. other _ refl) (λ k. other _ refl) (λ l. other _ refl) (λ o l r. other _ refl)
+      (λ s l b. other _ refl) (λ l b. other _ refl) (λ y. other _ refl) (other _ refl) (λ f x l. other _ refl) (λ x l. other _ refl)
+      (λ s y l. other _ refl)
 
 -- a term
 module _ (t : ℕ → Tree) (n : NodeNo) (P : Node → Term → Type 0)
@@ -123,35 +162,12 @@ module _ (t : ℕ → Tree) (n : NodeNo) (P : Node → Term → Type 0)
     (other : (m : Node) → hasKey term-kinds (tagOf the-type m) ≡ false → P m (Value (node-no 0) 0 0)) where
   pub term-cases : (m : Node) → P m (as-term (planted t n m))
   unfolding planted as-term
-  term-cases (node.And l r) = other (node.And l r) refl
-  term-cases (node.Or l r) = other (node.Or l r) refl
-  term-cases (node.Not b) = other (node.Not b) refl
-  term-cases (node.Formerly b w) = other (node.Formerly b w) refl
-  term-cases (node.Previous b w) = other (node.Previous b w) refl
-  term-cases (node.Since l r w) = other (node.Since l r w) refl
-  term-cases (node.Exists s y b) = other (node.Exists s y b) refl
-  term-cases (node.Comparison o l r) = other (node.Comparison o l r) refl
-  term-cases (node.Predicate a l) = other (node.Predicate a l) refl
-  term-cases (node.Refine b l) = other (node.Refine b l) refl
-  term-cases (node.Tp s) = other (node.Tp s) refl
-  term-cases (node.Call y) = other (node.Call y) refl
-  term-cases (node.SigilRef y) = other (node.SigilRef y) refl
-  term-cases (node.Var x) = var x
-  term-cases node.Wildcard = wildcard
-  term-cases (node.Literal y) = literal y
-  term-cases (node.ScopeField y) = scope y
-  term-cases (node.ContextField y) = context y
-  term-cases (node.ParamRef k) = param k
-  term-cases (node.BinderRef k) = binder-ref k
-  term-cases (node.Array l) = array l
-  term-cases (node.Arith o l r) = arith o l r
-  term-cases (node.Sum s l b) = sum s l b
-  term-cases (node.Count l b) = count l b
-  term-cases (node.AggregateCall y) = agg y
-  term-cases node.ListEnd = other node.ListEnd refl
-  term-cases (node.ArgumentCell f x l) = other (node.ArgumentCell f x l) refl
-  term-cases (node.ItemCell x l) = other (node.ItemCell x l) refl
-  term-cases (node.BinderCell s y l) = other (node.BinderCell s y l) refl
+  term-cases =
+      by-kind (λ (m : Node). P m (as-term (planted t n m)))
+      (λ l r. other _ refl) (λ l r. other _ refl) (λ b. other _ refl) (λ b w. other _ refl) (λ b w. other _ refl) (λ l r w. other _ refl)
+      (λ s y b. other _ refl) (λ o l r. other _ refl) (λ a l. other _ refl) (λ b l. other _ refl) (λ s. other _ refl) (λ y. other _ refl)
+      (λ y. other _ refl) var wildcard literal scope context param binder-ref array arith sum count agg (other _ refl) (λ f x l. other _ refl)
+      (λ x l. other _ refl) (λ s y l. other _ refl)
 
 -- a list of arguments
 module _ (t : ℕ → Tree) (n : NodeNo) (P : Node → Arguments → Type 0)
@@ -160,35 +176,13 @@ module _ (t : ℕ → Tree) (n : NodeNo) (P : Node → Arguments → Type 0)
     (other : (m : Node) → hasKey argument-kinds (tagOf the-type m) ≡ false → P m (no-argument (node-no 0))) where
   pub arguments-cases : (m : Node) → P m (as-arguments (planted t n m))
   unfolding planted as-arguments
-  arguments-cases (node.And l r) = other (node.And l r) refl
-  arguments-cases (node.Or l r) = other (node.Or l r) refl
-  arguments-cases (node.Not b) = other (node.Not b) refl
-  arguments-cases (node.Formerly b w) = other (node.Formerly b w) refl
-  arguments-cases (node.Previous b w) = other (node.Previous b w) refl
-  arguments-cases (node.Since l r w) = other (node.Since l r w) refl
-  arguments-cases (node.Exists s y b) = other (node.Exists s y b) refl
-  arguments-cases (node.Comparison o l r) = other (node.Comparison o l r) refl
-  arguments-cases (node.Predicate a l) = other (node.Predicate a l) refl
-  arguments-cases (node.Refine b l) = other (node.Refine b l) refl
-  arguments-cases (node.Tp s) = other (node.Tp s) refl
-  arguments-cases (node.Call y) = other (node.Call y) refl
-  arguments-cases (node.SigilRef y) = other (node.SigilRef y) refl
-  arguments-cases (node.Var x) = other (node.Var x) refl
-  arguments-cases node.Wildcard = other node.Wildcard refl
-  arguments-cases (node.Literal y) = other (node.Literal y) refl
-  arguments-cases (node.ScopeField y) = other (node.ScopeField y) refl
-  arguments-cases (node.ContextField y) = other (node.ContextField y) refl
-  arguments-cases (node.ParamRef k) = other (node.ParamRef k) refl
-  arguments-cases (node.BinderRef k) = other (node.BinderRef k) refl
-  arguments-cases (node.Array l) = other (node.Array l) refl
-  arguments-cases (node.Arith o l r) = other (node.Arith o l r) refl
-  arguments-cases (node.Sum s l b) = other (node.Sum s l b) refl
-  arguments-cases (node.Count l b) = other (node.Count l b) refl
-  arguments-cases (node.AggregateCall y) = other (node.AggregateCall y) refl
-  arguments-cases node.ListEnd = end
-  arguments-cases (node.ArgumentCell f x l) = arg f x l
-  arguments-cases (node.ItemCell x l) = other (node.ItemCell x l) refl
-  arguments-cases (node.BinderCell s y l) = other (node.BinderCell s y l) refl
+  arguments-cases =
+      by-kind (λ (m : Node). P m (as-arguments (planted t n m)))
+      (λ l r. other _ refl) (λ l r. other _ refl) (λ b. other _ refl) (λ b w. other _ refl) (λ b w. other _ refl) (λ l r w. other _ refl)
+      (λ s y b. other _ refl) (λ o l r. other _ refl) (λ a l. other _ refl) (λ b l. other _ refl) (λ s. other _ refl) (λ y. other _ refl)
+      (λ y. other _ refl) (λ x. other _ refl) (other _ refl) (λ y. other _ refl) (λ y. other _ refl) (λ y. other _ refl) (λ k. other _ refl)
+      (λ k. other _ refl) (λ l. other _ refl) (λ o l r. other _ refl) (λ s l b. other _ refl) (λ l b. other _ refl) (λ y. other _ refl) end arg
+      (λ x l. other _ refl) (λ s y l. other _ refl)
 
 -- a list of binders
 module _ (t : ℕ → Tree) (n : NodeNo) (P : Node → Binders → Type 0)
@@ -197,35 +191,13 @@ module _ (t : ℕ → Tree) (n : NodeNo) (P : Node → Binders → Type 0)
     (other : (m : Node) → hasKey binder-kinds (tagOf the-type m) ≡ false → P m (no-binder (node-no 0))) where
   pub binders-cases : (m : Node) → P m (as-binders (planted t n m))
   unfolding planted as-binders
-  binders-cases (node.And l r) = other (node.And l r) refl
-  binders-cases (node.Or l r) = other (node.Or l r) refl
-  binders-cases (node.Not b) = other (node.Not b) refl
-  binders-cases (node.Formerly b w) = other (node.Formerly b w) refl
-  binders-cases (node.Previous b w) = other (node.Previous b w) refl
-  binders-cases (node.Since l r w) = other (node.Since l r w) refl
-  binders-cases (node.Exists s y b) = other (node.Exists s y b) refl
-  binders-cases (node.Comparison o l r) = other (node.Comparison o l r) refl
-  binders-cases (node.Predicate a l) = other (node.Predicate a l) refl
-  binders-cases (node.Refine b l) = other (node.Refine b l) refl
-  binders-cases (node.Tp s) = other (node.Tp s) refl
-  binders-cases (node.Call y) = other (node.Call y) refl
-  binders-cases (node.SigilRef y) = other (node.SigilRef y) refl
-  binders-cases (node.Var x) = other (node.Var x) refl
-  binders-cases node.Wildcard = other node.Wildcard refl
-  binders-cases (node.Literal y) = other (node.Literal y) refl
-  binders-cases (node.ScopeField y) = other (node.ScopeField y) refl
-  binders-cases (node.ContextField y) = other (node.ContextField y) refl
-  binders-cases (node.ParamRef k) = other (node.ParamRef k) refl
-  binders-cases (node.BinderRef k) = other (node.BinderRef k) refl
-  binders-cases (node.Array l) = other (node.Array l) refl
-  binders-cases (node.Arith o l r) = other (node.Arith o l r) refl
-  binders-cases (node.Sum s l b) = other (node.Sum s l b) refl
-  binders-cases (node.Count l b) = other (node.Count l b) refl
-  binders-cases (node.AggregateCall y) = other (node.AggregateCall y) refl
-  binders-cases node.ListEnd = end
-  binders-cases (node.ArgumentCell f x l) = other (node.ArgumentCell f x l) refl
-  binders-cases (node.ItemCell x l) = other (node.ItemCell x l) refl
-  binders-cases (node.BinderCell s y l) = cell s y l
+  binders-cases =
+      by-kind (λ (m : Node). P m (as-binders (planted t n m)))
+      (λ l r. other _ refl) (λ l r. other _ refl) (λ b. other _ refl) (λ b w. other _ refl) (λ b w. other _ refl) (λ l r w. other _ refl)
+      (λ s y b. other _ refl) (λ o l r. other _ refl) (λ a l. other _ refl) (λ b l. other _ refl) (λ s. other _ refl) (λ y. other _ refl)
+      (λ y. other _ refl) (λ x. other _ refl) (other _ refl) (λ y. other _ refl) (λ y. other _ refl) (λ y. other _ refl) (λ k. other _ refl)
+      (λ k. other _ refl) (λ l. other _ refl) (λ o l r. other _ refl) (λ s l b. other _ refl) (λ l b. other _ refl) (λ y. other _ refl) end
+      (λ f x l. other _ refl) (λ x l. other _ refl) cell
 
 -- a term, or the terms of a list
 module _ {A : Type 0} (f : Term → A) (g : Arguments → A) (h : Items → A) (v : A) (t : ℕ → Tree) (n : NodeNo) (P : Node → A → Type 0)
@@ -246,32 +218,9 @@ module _ {A : Type 0} (f : Term → A) (g : Arguments → A) (h : Items → A) (
     (other : (m : Node) → hasKey kinds-in-terms (tagOf the-type m) ≡ false → P m v) where
   pub in-terms-cases : (m : Node) → P m (in-terms f g h v (planted t n m))
   unfolding planted in-terms
-  in-terms-cases (node.And l r) = other (node.And l r) refl
-  in-terms-cases (node.Or l r) = other (node.Or l r) refl
-  in-terms-cases (node.Not b) = other (node.Not b) refl
-  in-terms-cases (node.Formerly b w) = other (node.Formerly b w) refl
-  in-terms-cases (node.Previous b w) = other (node.Previous b w) refl
-  in-terms-cases (node.Since l r w) = other (node.Since l r w) refl
-  in-terms-cases (node.Exists s y b) = other (node.Exists s y b) refl
-  in-terms-cases (node.Comparison o l r) = other (node.Comparison o l r) refl
-  in-terms-cases (node.Predicate a l) = other (node.Predicate a l) refl
-  in-terms-cases (node.Refine b l) = other (node.Refine b l) refl
-  in-terms-cases (node.Tp s) = other (node.Tp s) refl
-  in-terms-cases (node.Call y) = other (node.Call y) refl
-  in-terms-cases (node.SigilRef y) = other (node.SigilRef y) refl
-  in-terms-cases (node.Var x) = var x
-  in-terms-cases node.Wildcard = wildcard
-  in-terms-cases (node.Literal y) = literal y
-  in-terms-cases (node.ScopeField y) = scope y
-  in-terms-cases (node.ContextField y) = context y
-  in-terms-cases (node.ParamRef k) = param k
-  in-terms-cases (node.BinderRef k) = binder-ref k
-  in-terms-cases (node.Array l) = array l
-  in-terms-cases (node.Arith o l r) = arith o l r
-  in-terms-cases (node.Sum s l b) = sum s l b
-  in-terms-cases (node.Count l b) = count l b
-  in-terms-cases (node.AggregateCall y) = agg y
-  in-terms-cases node.ListEnd = other node.ListEnd refl
-  in-terms-cases (node.ArgumentCell k x l) = arg k x l
-  in-terms-cases (node.ItemCell x l) = item x l
-  in-terms-cases (node.BinderCell s y l) = other (node.BinderCell s y l) refl
+  in-terms-cases =
+      by-kind (λ (m : Node). P m (in-terms f g h v (planted t n m)))
+      (λ l r. other _ refl) (λ l r. other _ refl) (λ b. other _ refl) (λ b w. other _ refl) (λ b w. other _ refl) (λ l r w. other _ refl)
+      (λ s y b. other _ refl) (λ o l r. other _ refl) (λ a l. other _ refl) (λ b l. other _ refl) (λ s. other _ refl) (λ y. other _ refl)
+      (λ y. other _ refl) var wildcard literal scope context param binder-ref array arith sum count agg (other _ refl) arg item
+      (λ s y l. other _ refl)

@@ -11,9 +11,8 @@ use Rattle.trees.proofs.Shapes.{Two, One, Terms, Aggregate, not, sum, count, ar
 use Rattle.trees.proofs.Shapes.Two.{and as two-and, or, since}
 use Rattle.trees.proofs.Shapes.One.{formerly, previous}
 use Rattle.trees.proofs.Joins.{two-law, one-law, terms-law, array-law, comparison-law, predicate-law, refine-law}
-use Rattle.paper.specs.FreeAndRestricted.{free}
 use Rattle.trees.specs.Terms.{free-in}
-use Rattle.free.proofs.FreeLaws.{slot-tabled, free-two, free-one, free-comparison, free-predicate, free-refine, free-terms, in-free, free-tp, free-exists, free-var, free-aggregate, no-free, no-var}
+use Rattle.free.proofs.FreeLaws.{slot-tabled, free-two, free-one, free-fields, free-terms, in-free, free-tp, free-exists, free-var, free-aggregate, no-free, no-var}
 use borrow.Fn.Kinds.{In}
 use borrow.Fn.PlainCycle.{Measures, is, falls, and}
 use Rattle.free.proofs.collect_free.Reads as collect-free
@@ -126,9 +125,9 @@ pub +collect-free+collect-term-var-spec : {M : Type 1} → statement M
     (λ c κs. down (of-two (joins t c) (body-arm t (c .before) refl) .0) (c .before .before .before .pre .0))
     (λ c κs. down (of-two (joins t (c .before)) (body-arm t (c .before .before) refl) .1) (c .before .before .before .before .pre .0))
     (λ c κs. search needs)
-    (λ c. c .collect-term-var .ensures ∙ sym (predicate-law free-terms free free-predicate (body-arm t (c .before .before .before .before) (c .before .before .node7 .given .1))))
-    (λ c. c .union .ensures ∙ ap₂ _∪_ (c .before .before .collect-free .ensures) (c .before .collect-term-var2 .ensures) ∙ sym (refine-law free-terms free free-refine (body-arm t (c .before .before .before .before .before .before) (c .before .before .before .before .node8 .given .1))))
-    (λ c. c .union2 .ensures ∙ ap₂ _∪_ (c .before .before .collect-term-var3 .ensures) (c .before .collect-term-var4 .ensures) ∙ sym (comparison-law free-terms free free-comparison (body-arm t (c .before .before .before .before .before .before) (c .before .before .before .before .node9 .given .1))))
+    (λ c. c .collect-term-var .ensures ∙ sym (predicate-law free-terms free-fields (body-arm t (c .before .before .before .before) (c .before .before .node7 .given .1))))
+    (λ c. c .union .ensures ∙ ap₂ _∪_ (c .before .before .collect-free .ensures) (c .before .collect-term-var2 .ensures) ∙ sym (refine-law free-terms free-fields (body-arm t (c .before .before .before .before .before .before) (c .before .before .before .before .node8 .given .1))))
+    (λ c. c .union2 .ensures ∙ ap₂ _∪_ (c .before .before .collect-term-var3 .ensures) (c .before .collect-term-var4 .ensures) ∙ sym (comparison-law free-terms free-fields (body-arm t (c .before .before .before .before .before .before) (c .before .before .before .before .node9 .given .1))))
     (λ c. c .slot-name .ensures ∙ sym (free-tp (body-arm t (c .before .before .before .before) (c .before .before .node10 .given .1))))
     (λ c. c .minus .ensures ∙ ap₂ _∖_ (c .before .before .collect-free2 .ensures) (c .before .slot-name2 .ensures) ∙ sym (free-exists (body-arm t (c .before .before .before .before .before .before) (c .before .before .before .before .node11 .given .1))))
     (λ c. c .empty .ensures ∙ sym (in-free (body-arm t (c .before .before) refl) ∙ no-free _ _ _ (c .before .match .keys12)))

@@ -2,7 +2,6 @@ use mathlib.Core.Path.{sym, ap, _∙_}
 use borrow.Author.Needs.{needs}
 use Rattle.paper.specs.declared.Arithmetic.the-variants.{Yes, No}
 use Rattle.paper.specs.Record.{pick}
-use Rattle.record.proofs.Verdicts.{counts-are}
 use Rattle.noravilump.specs.Passed.{arithmetic-passed}
 use Rattle.noravilump.proofs.Asked.{arithmetic-refused, some-root, has-root, arithmetic-told}
 use Rattle.noravilump.proofs.arithmetic.Statement.{statement}
@@ -11,30 +10,29 @@ use Rattle.noravilump.proofs.arithmetic.Tie as tie
 returns : tie.Need-returns
 unfolding arithmetic-passed
 returns c =
-    let told = c .before .enum-told .given .1 in
-    let read = c .before .before .before .before in
-    c .passed-arithmetic .ensures ∙ ap arithmetic-passed told ∙ sym (arithmetic-refused _ (sym (read .read .ensures .said) ∙ told))
+    let refusal = c .before .enum-told .given .1 in
+    c .passed-arithmetic .ensures ∙ ap arithmetic-passed refusal ∙ sym (arithmetic-refused _ _ (c .before .before .before .before .read .ensures) refusal)
 
 root-requires : tie.Need-root-requires
-root-requires c κs =
-    let read = c .before .before .before .before .before .before in
-    some-root _ (counts-are _ (sym (read .read .ensures .said) ∙ c .before .before .before .v .given .1))
+root-requires c κs = let v = c .before .before .before in some-root _ _ (v .before .before .before .read .ensures) (v .v .given .1)
 
 condition-has-arith-requires : tie.Need-condition-has-arith-requires
 condition-has-arith-requires c κs =
-    let read = c .before .before .before .before .before .before .before in
-    has-root _ (counts-are _ (sym (read .read .ensures .said) ∙ c .before .before .before .before .v .given .1)) _ (read .read .ensures) _ (c .root .ensures)
+    let v = c .before .before .before .before in
+    has-root _ _ (v .before .before .before .read .ensures) (v .v .given .1) _ (c .root .ensures)
 
 returns-2 : tie.Need-returns-2
 returns-2 c =
-    let read = c .before .before .before .before .before .before .before .before .before in
-    sym (arithmetic-told _ (counts-are _ (sym (read .read .ensures .said) ∙ c .before .before .before .before .before .before .v .given .1)) _ (c .before .before .root .ensures)
+    let v = c .before .before .before .before .before .before in
+    sym
+    (arithmetic-told _ _ (v .before .before .before .read .ensures) (v .v .given .1) _ (c .before .before .root .ensures)
     ∙ ap (λ b. pick b Yes No) (sym (c .before .condition-has-arith .ensures) ∙ c .if1 .taken))
 
 returns-3 : tie.Need-returns-3
 returns-3 c =
-    let read = c .before .before .before .before .before .before .before .before .before in
-    sym (arithmetic-told _ (counts-are _ (sym (read .read .ensures .said) ∙ c .before .before .before .before .before .before .v .given .1)) _ (c .before .before .root .ensures)
+    let v = c .before .before .before .before .before .before in
+    sym
+    (arithmetic-told _ _ (v .before .before .before .read .ensures) (v .v .given .1) _ (c .before .before .root .ensures)
     ∙ ap (λ b. pick b Yes No) (sym (c .before .condition-has-arith .ensures) ∙ c .if1 .left))
 
 pub arithmetic-spec : {M : Type 1} → statement M

@@ -13,9 +13,8 @@ use Rattle.trees.proofs.Shapes.Two.{and as two-and, or, since}
 use Rattle.trees.proofs.Shapes.One.{not, formerly, previous}
 use Rattle.paper.specs.declared.NodeNo.{NodeNo}
 use Rattle.trees.proofs.Joins.{two-law, body-law, terms-law, array-law, comparison-law, predicate-law, refine-law, or-taken, or-else}
-use Rattle.paper.specs.FreeAndRestricted.{holds-sigil}
 use Rattle.trees.specs.Terms.{sigil-in}
-use Rattle.sigils.proofs.SigilLaws.{sigil-two, sigil-one, sigil-exists, sigil-terms, sigil-refine, sigil-comparison, sigil-predicate, sigil-tp, sigil-aggregate, in-body, opaque-body, plain-body, opaque-term, plain-term}
+use Rattle.sigils.proofs.SigilLaws.{sigil-two, sigil-one, sigil-exists, sigil-terms, sigil-fields, sigil-tp, sigil-aggregate, in-body, opaque-body, plain-body, opaque-term, plain-term}
 use Rattle.sigils.proofs.body_has_sigil.Reads as body-has-sigil
 use Rattle.sigils.proofs.body_has_sigil.Kinds as body-has-sigil-kinds
 use Rattle.sigils.proofs.+body_has_sigil+term_has_sigil.Lts-body_has_sigil as body-has-sigil-lts
@@ -115,11 +114,11 @@ pub +body-has-sigil+term-has-sigil-spec : {M : Type 1} → statement M
     (λ c κs. down (of-two (joins t c) (body-arm t (c .before) refl) .0) (c .before .before .before .pre .0))
     (λ c κs. down (of-two (joins t (c .before .before)) (body-arm t (c .before .before .before) refl) .1) (c .before .before .before .before .before .pre .0))
     (λ c. sym (in-body (body-arm t (c .before) refl) ∙ opaque-body _ _ _ (c .match .keys1)))
-    (λ c. or-taken _ (c .if1 .taken) (c .before .body-has-sigil .ensures) (refine-law sigil-terms holds-sigil sigil-refine (body-arm t (c .before .before .before .before .before) (c .before .before .before .node8 .given .1))))
-    (λ c. or-else (c .before .if1 .left) (c .before .before .body-has-sigil .ensures) (c .term-has-sigil .ensures) (refine-law sigil-terms holds-sigil sigil-refine (body-arm t (c .before .before .before .before .before .before) (c .before .before .before .before .node8 .given .1))))
-    (λ c. or-taken _ (c .if2 .taken) (c .before .term-has-sigil2 .ensures) (comparison-law sigil-terms holds-sigil sigil-comparison (body-arm t (c .before .before .before .before .before) (c .before .before .before .node9 .given .1))))
-    (λ c. or-else (c .before .if2 .left) (c .before .before .term-has-sigil2 .ensures) (c .term-has-sigil3 .ensures) (comparison-law sigil-terms holds-sigil sigil-comparison (body-arm t (c .before .before .before .before .before .before) (c .before .before .before .before .node9 .given .1))))
-    (λ c. c .term-has-sigil4 .ensures ∙ sym (predicate-law sigil-terms holds-sigil sigil-predicate (body-arm t (c .before .before .before .before) (c .before .before .node10 .given .1))))
+    (λ c. or-taken _ (c .if1 .taken) (c .before .body-has-sigil .ensures) (refine-law sigil-terms sigil-fields (body-arm t (c .before .before .before .before .before) (c .before .before .before .node8 .given .1))))
+    (λ c. or-else (c .before .if1 .left) (c .before .before .body-has-sigil .ensures) (c .term-has-sigil .ensures) (refine-law sigil-terms sigil-fields (body-arm t (c .before .before .before .before .before .before) (c .before .before .before .before .node8 .given .1))))
+    (λ c. or-taken _ (c .if2 .taken) (c .before .term-has-sigil2 .ensures) (comparison-law sigil-terms sigil-fields (body-arm t (c .before .before .before .before .before) (c .before .before .before .node9 .given .1))))
+    (λ c. or-else (c .before .if2 .left) (c .before .before .term-has-sigil2 .ensures) (c .term-has-sigil3 .ensures) (comparison-law sigil-terms sigil-fields (body-arm t (c .before .before .before .before .before .before) (c .before .before .before .before .node9 .given .1))))
+    (λ c. c .term-has-sigil4 .ensures ∙ sym (predicate-law sigil-terms sigil-fields (body-arm t (c .before .before .before .before) (c .before .before .node10 .given .1))))
     (λ c. c .is-sigil .ensures ∙ sym (sigil-tp (body-arm t (c .before .before .before .before) (c .before .before .node11 .given .1))))
     (λ c. sym (in-body (body-arm t (c .before) refl) ∙ plain-body _ _ _ (c .match .keys13)))
     (λ c. c .body-has-sigil2 .ensures ∙ sym (body-law sigil-one sigil-exists (wraps t (c .before)) (body-arm t (c .before .before) refl)))
