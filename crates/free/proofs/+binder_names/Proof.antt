@@ -1,3 +1,4 @@
+-- `binder_names` gives the named binders of a list. The measure is the node's number; the needs are in the order of the code, first what the calls ask.
 use mathlib.Core.Path.{_≡_, refl, sym, ap₂, _∙_}
 use Rattle.paper.specs.Sets.{_∪_}
 use Prim.Native.Nat.{ℕ, _<_}

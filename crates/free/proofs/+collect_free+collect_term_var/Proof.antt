@@ -1,3 +1,5 @@
+-- `collect_free` and `collect_term_var` give the free names of the definitions. The measure is the node's number. For each function: the shapes that its
+-- arms take together, then its needs in the order of the code, first what the calls ask and then what each arm returns.
 use mathlib.Core.Path.{_≡_, refl, sym, ap, ap₂, _∙_}
 use Rattle.paper.specs.Sets.{_∪_, _∖_}
 use mathlib.Core.Logic.{⊎-elim}

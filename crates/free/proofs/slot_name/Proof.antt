@@ -1,3 +1,4 @@
+-- `slot_name` gives a slot's name, if it is one.
 use mathlib.Core.Path.{sym, ap, _∙_, subst}
 use Prim.Native.Nat.{_<_}
 use native.Mathlib.Omega.{arith}

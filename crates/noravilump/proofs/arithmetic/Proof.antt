@@ -1,3 +1,4 @@
+-- `arithmetic` answers as the definitions do, for all bytes.
 use mathlib.Core.Path.{sym, ap, _∙_}
 use borrow.Author.Needs.{needs}
 use Rattle.paper.specs.declared.Arithmetic.the-variants.{Yes, No}

@@ -1,3 +1,4 @@
+-- `closedness` answers as the definitions do, for all bytes.
 use mathlib.Core.Path.{sym, ap, _∙_}
 use borrow.Author.Needs.{needs}
 use Rattle.noravilump.specs.Passed.{answer-passed}

@@ -1,3 +1,4 @@
+-- A refusal is passed on as closedness answers it.
 use mathlib.Core.Path.{sym, ap}
 use borrow.Author.Needs.{needs}
 use Rattle.noravilump.specs.Passed.{answer-passed}

@@ -1,3 +1,5 @@
+-- `body_has_sigil` and `term_has_sigil` find a sigil where the definitions do. The measure is the node's number. For each function: the shapes that its
+-- arms take together, then its needs in the order of the code, first what the calls ask and then what each arm returns.
 use mathlib.Core.Path.{_≡_, refl, sym, ap, _∙_}
 use mathlib.Core.Logic.{⊎-elim}
 use Prim.Native.Nat.{ℕ, _<_}

@@ -1,3 +1,4 @@
+-- `is_sigil` says whether a slot is a sigil.
 use mathlib.Core.Path.{sym, ap}
 use borrow.Author.Needs.{needs}
 use Rattle.paper.specs.FreeAndRestricted.{is-sigil}

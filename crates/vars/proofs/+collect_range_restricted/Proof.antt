@@ -1,3 +1,5 @@
+-- `collect_range_restricted` gives the restricted names of the definitions. The measure is the node's number; the needs are in the order of the code, first
+-- what the calls ask and then what each arm returns.
 use mathlib.Core.Path.{_≡_, refl, sym, ap₂, _∙_}
 use Rattle.paper.specs.Sets.{_∪_, _∖_}
 use mathlib.Core.Logic.{⊎-elim}

@@ -1,3 +1,5 @@
+-- `term_contains_wildcard` finds a wildcard where the definitions do. The measure is the node's number; the needs are in the order of the code, first what
+-- the calls ask and then what each arm returns.
 use mathlib.Core.Path.{_≡_, refl, sym, ap, _∙_}
 use mathlib.Core.Logic.{⊎-elim}
 use Prim.Native.Nat.{ℕ, _<_}

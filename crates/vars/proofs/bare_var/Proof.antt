@@ -1,3 +1,4 @@
+-- `bare_var` gives the variable that is the whole term.
 use mathlib.Core.Path.{refl, sym, _∙_}
 use borrow.Author.Needs.{needs}
 use Rattle.paper.specs.FreeAndRestricted.{bare}

@@ -1,3 +1,4 @@
+-- `is_restrictor` says whether a term has a value that ties.
 use mathlib.Core.Path.{refl, sym, ap, _∙_}
 use mathlib.Core.Bool.{not}
 use borrow.Author.Needs.{needs}

@@ -1,3 +1,4 @@
+-- `tied_var` gives the tied name, of whichever side.
 use mathlib.Core.Path.{sym, ap, _∙_, subst}
 use mathlib.Core.Logic.{⊎-elim}
 use borrow.Author.Needs.{needs}

@@ -1,3 +1,5 @@
+-- `condition_has_arith` and `term_has_arith` find arithmetic where the definitions do. The measure is the node's number. For each function: the shapes that
+-- its arms take together, then its needs in the order of the code, first what the calls ask and then what each arm returns.
 use mathlib.Core.Path.{_≡_, refl, sym, _∙_}
 use mathlib.Core.Logic.{⊎-elim}
 use Prim.Native.Nat.{ℕ, _<_}

@@ -1,3 +1,4 @@
+-- `check_leaf_closed` answers with the first entry of 28.
 use mathlib.Core.Path.{sym, ap, _∙_}
 use borrow.Author.Needs.{needs}
 use Rattle.paper.specs.declared.Subject.{Subject}
