@@ -4,7 +4,7 @@ use mathlib.Core.Bool.{Bool, true, false, _&&_, true≢false}
 use Prim.Native.Nat.{ℕ, zero, suc, _<_}
 use native.Mathlib.Omega.{arith}
 use native.Mathlib.Decide.{decLt}
-use Rattle.paper.specs.Sets.{Set, all-below}
+use Rattle.paper.specs.Sets.{Set, none, _∪_, all-below}
 
 -- what holds of all below n holds of each
 pub all-get : (n : ℕ) (a : Set) → all-below n a ≡ true → (k : ℕ) → k < n → a k ≡ true
@@ -17,3 +17,7 @@ all-get (suc n) a e k h = go (a n) (all-below n a) refl refl e (λ q l. all-get 
     go true true p q r f (no l) = let d : k ≡ n = omega arith in ap a d ∙ p
     go true false p q r f d = absurd (true≢false (sym r))
     go false y p q r f d = absurd (true≢false (sym r))
+
+pub none-joins : (a : Set) → none ∪ a ≡ a
+unfolding _∪_ none
+none-joins a = refl

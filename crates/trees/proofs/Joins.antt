@@ -8,7 +8,6 @@ use Rattle.paper.specs.declared.NodeNo.{NodeNo}
 use Rattle.paper.specs.declared.Slot.{Slot}
 use Rattle.paper.specs.declared.Node.{Node}
 use Rattle.paper.specs.declared.Node.the-variants as node
-use Rattle.paper.specs.Sets.{Set, none, _∪_}
 use Rattle.paper.specs.Tree.{Condition, Term, Arguments, Items, Tree, as-condition, planted}
 use Rattle.paper.specs.Tree.Condition.{And, Or, Not, Past, Since, Exists, Comparison, Predicate, Refine}
 use Rattle.paper.specs.Tree.Term.{Array, Arith}
@@ -124,9 +123,3 @@ or-taken y e p q = e ∙ sym (q ∙ ap (λ (z : Bool). z || y) (sym p ∙ e))
 
 pub or-else : {a b x y whole : Bool} → a ≡ false → a ≡ x → b ≡ y → whole ≡ (x || y) → b ≡ whole
 or-else {y = y} e p r q = r ∙ sym (q ∙ ap (λ (z : Bool). z || y) (sym p ∙ e))
-
--- ---- sets
-
-pub none-joins : (a : Set) → none ∪ a ≡ a
-unfolding _∪_ none
-none-joins a = refl

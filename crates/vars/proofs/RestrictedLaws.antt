@@ -31,7 +31,8 @@ use Rattle.trees.specs.Trees.{tree-of, condition-of, term-of, arguments-of, in-
 use Rattle.trees.proofs.Arms.{Arm, arm}
 use Rattle.trees.proofs.Shapes.{Anchor, formerly, previous, since}
 use Rattle.trees.proofs.ByKind.{term-kinds, no-other, condition-cases, term-cases, arguments-cases, in-terms-cases}
-use Rattle.trees.proofs.Joins.{JoinsTerms, none-joins}
+use Rattle.trees.proofs.Joins.{JoinsTerms}
+use Rattle.paper.proofs.SetLaws.{none-joins}
 use Rattle.trees.specs.Terms.{arguments-wildcard, wildcard-in}
 
 -- ---- wildcards

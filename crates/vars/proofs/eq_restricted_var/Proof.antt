@@ -10,13 +10,13 @@ eq-restricted-var-spec =
     tie.close
     (tie.spec
     (λ c. sym (tied-other _ _ _ (c .if1 .taken)))
-    (λ c κs. c .before .before .pre .0)
+    (λ c κs. search needs)
     (λ c. search needs)
-    (λ c κs. c .before .before .before .before .before .before .pre .1)
+    (λ c κs. search needs)
     (λ c. search needs)
-    (λ c κs. c .before .before .before .before .before .pre .1)
+    (λ c κs. search needs)
     (λ c. search needs)
-    (λ c κs. c .before .before .before .before .before .before .before .before .before .pre .0)
+    (λ c κs. search needs)
     (λ c. search needs)
     (λ c. sym (tied-left _ _ _ (c .before .before .before .before .before .before .if1 .left) (sym (c .before .before .before .before .before .bare-var .ensures) ∙ c .before .before .before .x .given .1) (sym (c .before .is-restrictor .ensures) ∙ c .if2 .taken)))
     (λ c. sym (tied-left-not _ _ _ (c .before .before .before .before .before .before .if1 .left) (sym (c .before .before .before .before .before .bare-var .ensures) ∙ c .before .before .before .x .given .1) (sym (c .before .is-restrictor .ensures) ∙ c .if2 .left)))
