@@ -1,5 +1,5 @@
 -- Document 01, 'The list and the names': the three parts of the list, an entry as a number, and a name by its number. Assumes nothing: these are definitions.
-use Prim.Native.Nat.{ℕ, _+_, _*_}
+use Prim.Native.Nat.{ℕ, _+_, _*_, _/_, _%_}
 use mathlib.Core.Bool.{Bool, true, false}
 use mathlib.Core.List.{List, [], _∷_, _++_, map}
 use lib.Dec.{eqb}
@@ -7,6 +7,7 @@ use lib.ListN.{getD}
 use Rattle.paper.specs.declared.Subject.{Subject}
 use Rattle.paper.specs.declared.Subject.the-variants.{Name, NoName}
 use Rattle.paper.specs.declared.Finding.{Finding}
+use Rattle.paper.specs.Record.{pick, node-no, name-no}
 use Rattle.paper.specs.Sets.{none}
 use Rattle.paper.specs.TurnedAway.{Contents}
 use Rattle.paper.specs.Scoping.{scoping-part}
@@ -28,6 +29,13 @@ name-or-255 NoName = 255
 -- "rule times 16,777,216, plus node times 256, plus name"
 unfoldable pub pack : Finding → ℕ
 pack f = f .rule * 16777216 + f .node .0 * 256 + name-or-255 (f .name)
+
+-- the entry that a number stands for
+unfoldable pub about : ℕ → Subject
+about x = pick (eqb x 255) NoName (Name (name-no x))
+
+unfoldable pub unpack : ℕ → Finding
+unpack v = record { rule = v / 16777216; node = node-no (v / 256 % 65536); name = about (v % 256) }
 
 unfoldable pub packed : Contents → List ℕ
 packed c = map pack (the-list c)
