@@ -12,7 +12,7 @@ use lib.Pow.{high, low, shr-lt, split, pow-pos, ones-lt, ones-split, pow-mono, p
 use borrow.Author.Tests.{eq-eqb, ne-eqb, ltb-true, ltb-false, lt-ltb, le-ltb}
 use Rattle.paper.proofs.SetLaws.{all-get}
 use Rattle.names.specs.Words.{bit, mem}
-use Rattle.paper.specs.Sets.{Set, none, only, _∪_, _∖_, below, outside, all-below}
+use Rattle.paper.specs.Sets.{Set, none, only, _∪_, _∩_, _∖_, below, outside, all-below}
 use Rattle.names.specs.declared.Names.{Names}
 
 -- what holds of 0 and of 1 holds of every digit
@@ -96,13 +96,9 @@ pub bit-shl : (n k : ℕ) → n < 64 → bit (1 * 2 ^ n % 2 ^ 64) k ≡ eqb k n
 bit-shl n k h = ap (λ (x : ℕ). bit x k) (shl-exact 1 n 64 (lit< tt) (omega arith)) ∙ bit-one n k
 
 -- ---- the two words together
-cond-or : (t : Bool) (a b c d : Bool) → cond t (a || b) (c || d) ≡ (cond t a c || cond t b d)
-cond-or true a b c d = refl
-cond-or false a b c d = refl
-
-cond-less : (t : Bool) (a b c d : Bool) → cond t (a && not b) (c && not d) ≡ (cond t a c && not (cond t b d))
-cond-less true a b c d = refl
-cond-less false a b c d = refl
+cond-op : (f : Bool → Bool → Bool) (t a b c d : Bool) → cond t (f a b) (f c d) ≡ f (cond t a c) (cond t b d)
+cond-op f true a b c d = refl
+cond-op f false a b c d = refl
 
 cond-same : (t x : Bool) → cond t x x ≡ x
 cond-same true x = refl
@@ -114,11 +110,15 @@ mem-none = fun-ext (λ k. ap₂ (cond (ltb k 64)) (bit-zero k) (bit-zero (k - 64
 
 pub mem-union : (a b : Names) → mem (record { lo = bitOr (a .lo) (b .lo); hi = bitOr (a .hi) (b .hi) }) ≡ mem a ∪ mem b
 unfolding mem _∪_
-mem-union a b = fun-ext (λ k. ap₂ (cond (ltb k 64)) (bit-or (a .lo) (b .lo) k) (bit-or (a .hi) (b .hi) (k - 64)) ∙ cond-or (ltb k 64) _ _ _ _)
+mem-union a b = fun-ext (λ k. ap₂ (cond (ltb k 64)) (bit-or (a .lo) (b .lo) k) (bit-or (a .hi) (b .hi) (k - 64)) ∙ cond-op _||_ (ltb k 64) _ _ _ _)
+
+pub mem-common : (a b : Names) → mem (record { lo = bitAnd (a .lo) (b .lo); hi = bitAnd (a .hi) (b .hi) }) ≡ mem a ∩ mem b
+unfolding mem _∩_
+mem-common a b = fun-ext (λ k. ap₂ (cond (ltb k 64)) (bit-and (a .lo) (b .lo) k) (bit-and (a .hi) (b .hi) (k - 64)) ∙ cond-op _&&_ (ltb k 64) _ _ _ _)
 
 pub mem-minus : (a b : Names) → mem (record { lo = bitXor (a .lo) (bitAnd (a .lo) (b .lo)); hi = bitXor (a .hi) (bitAnd (a .hi) (b .hi)) }) ≡ mem a ∖ mem b
 unfolding mem _∖_
-mem-minus a b = fun-ext (λ k. ap₂ (cond (ltb k 64)) (bit-less (a .lo) (b .lo) k) (bit-less (a .hi) (b .hi) (k - 64)) ∙ cond-less (ltb k 64) _ _ _ _)
+mem-minus a b = fun-ext (λ k. ap₂ (cond (ltb k 64)) (bit-less (a .lo) (b .lo) k) (bit-less (a .hi) (b .hi) (k - 64)) ∙ cond-op (λ a b. a && not b) (ltb k 64) _ _ _ _)
 
 -- one name, in the low word or in the high word
 at-low : (n k : ℕ) → n < 64 → (t : Bool) → ltb k 64 ≡ t → cond t (eqb k n) false ≡ eqb k n

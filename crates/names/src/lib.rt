@@ -3,7 +3,7 @@ use paper::NameNo;
 use paper::Subject;
 ghost use mathlib.Core.Path.{_≡_};
 ghost use Prim.Native.Nat.{_<_, _≤_};
-ghost use Rattle.paper.specs.Sets.{none, only, _∪_, _∖_, below as below-count, outside, all-below, members};
+ghost use Rattle.paper.specs.Sets.{none, only, _∪_, _∩_, _∖_, below as below-count, outside, all-below, members};
 ghost use Rattle.names.specs.Words.{bit, mem, first};
 
 // Bit k of lo is name k, bit k of hi is name 64 + k.
@@ -42,6 +42,15 @@ pub fn union(a: Names, b: Names) -> Names
     Names {
         lo: a.lo | b.lo,
         hi: a.hi | b.hi,
+    }
+}
+
+pub fn common(a: Names, b: Names) -> Names
+    ensures { λ r. ⌜ mem r ≡ mem a ∩ mem b ⌝ }
+{
+    Names {
+        lo: a.lo & b.lo,
+        hi: a.hi & b.hi,
     }
 }
 

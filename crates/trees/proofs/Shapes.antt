@@ -31,6 +31,11 @@ pub data Base (b : NodeNo) : Node → Type 0 where
   body : {m : Node} → Body b m → Base b m
   refine : {l : NodeNo} → Base b (node.Refine b l)
 
+-- one condition, and nothing bound
+pub data Plain (b : NodeNo) : Node → Type 0 where
+  one : {m : Node} → One b m → Plain b m
+  refine : {l : NodeNo} → Plain b (node.Refine b l)
+
 -- the condition that a time operator restricts by
 pub data Anchor (b : NodeNo) : Node → Type 0 where
   formerly : {w : ℕ} → Anchor b (node.Formerly b w)
@@ -47,6 +52,15 @@ pub data Terms (l r : NodeNo) : Node → Type 0 where
   arith : {o : ℕ} → Terms l r (node.Arith o l r)
   argument : {f : ℕ} → Terms l r (node.ArgumentCell f l r)
   item : Terms l r (node.ItemCell l r)
+
+-- a cell of arguments or of items, with the rest of the list
+pub data Row (l r : NodeNo) : Node → Type 0 where
+  argument : {f : ℕ} → Row l r (node.ArgumentCell f l r)
+  item : Row l r (node.ItemCell l r)
+
+pub row-terms : {l r : NodeNo} {m : Node} → Row l r m → Terms l r m
+row-terms argument = Terms.argument
+row-terms item = Terms.item
 
 -- the sort of what follows a term
 unfoldable pub rest-sort : {l r : NodeNo} {m : Node} → Terms l r m → Sort
@@ -72,6 +86,10 @@ module _ {bytes starts : List ℕ} {i : ℕ} where
   pub of-base : {b : NodeNo} {m : Node} → Base b m → Arm bytes starts i m → Child bytes starts i condition (b .0)
   of-base (body s) a = of-body s a
   of-base refine a = a .children .0
+
+  pub of-plain : {b : NodeNo} {m : Node} → Plain b m → Arm bytes starts i m → Child bytes starts i condition (b .0)
+  of-plain (one s) a = of-one s a
+  of-plain refine a = a .children .0
 
   pub of-anchor : {b : NodeNo} {m : Node} → Anchor b m → Arm bytes starts i m → Child bytes starts i condition (b .0)
   of-anchor formerly a = a .children .0

@@ -1,0 +1,188 @@
+-- An aggregate: its cells, whether it is skipped, and its five rules as the code writes them. Assumes nothing.
+use mathlib.Core.Path.{_≡_, refl, sym, ap, ap₂, _∙_}
+use mathlib.Core.Bool.{Bool, true, false, not, _&&_, _||_}
+use mathlib.Core.List.{List, [], _∷_, _++_, append-nil, append-assoc}
+use Prim.Native.Nat.{ℕ}
+use types.Run.{OneOf, miss}
+use denote.Enum.Declared.{tagOf}
+use borrow.Author.Tests.{eq-eqb}
+use Rattle.paper.proofs.Node.{the-type}
+use Rattle.paper.proofs.Slot.{the-type as slot-type}
+use Rattle.paper.specs.declared.NodeNo.{NodeNo}
+use Rattle.paper.specs.declared.Finding.{Finding}
+use Rattle.paper.specs.declared.Slot.{Slot}
+use Rattle.paper.specs.declared.Slot.the-variants.{Name, Param, Binder}
+use Rattle.paper.specs.declared.Node.{Node}
+use Rattle.paper.specs.declared.Node.the-variants as node
+use Rattle.paper.specs.Record.{node-no}
+use Rattle.paper.specs.Sets.{Set, none, only, _∪_, _∖_, outside}
+use Rattle.paper.specs.Tree.{Condition, Binders, Tree, as-term, as-binders, planted}
+use Rattle.paper.specs.Tree.Binders.{no-binder, binder}
+use Rattle.paper.specs.FreeAndRestricted.{named, is-sigil, binder-names, free, restricted}
+use Rattle.paper.specs.Places.{Cell, Broken, for-names, at-cells, gather, at-cell, findings}
+use Rattle.paper.specs.Scoping.{binder-sigil, cell-of, cells}
+use Rattle.trees.specs.Trees.{tree-of, condition-of, term-of, binders-of}
+use Rattle.trees.proofs.Arms.{Arm}
+use Rattle.trees.proofs.ByKind.{term-cases, binders-cases}
+use Rattle.places.specs.Aggregates.{skips, five, five-of}
+
+-- ---- cells
+
+gather-append : {A B : Type 0} (f : A → List B) (a b : List A) → gather f (a ++ b) ≡ gather f a ++ gather f b
+unfolding gather
+gather-append f [] b = refl
+gather-append f (x ∷ a) b = ap (λ (l : List _). f x ++ l) (gather-append f a b) ∙ sym (append-assoc (f x) (gather f a) (gather f b))
+
+pub cells-append : (rule : ℕ) (s : Set) (a b : List Cell) → findings (at-cells rule s (a ++ b)) ≡ findings (at-cells rule s a) ++ findings (at-cells rule s b)
+unfolding findings
+cells-append rule s a b = gather-append (at-cell rule s) a b
+
+module _ {bytes starts : List ℕ} {i : ℕ} where
+  pub in-cells : {A : Type 0} (f : Binders → A) {m : Node} → Arm bytes starts i m → f (binders-of bytes i) ≡ f (as-binders (planted (tree-of bytes) (node-no i) m))
+  in-cells f a = ap (λ (t : Tree). f (as-binders t)) (a .tree)
+
+  pub sigil-cell : {s : Slot} {y : ℕ} {l : NodeNo} → Arm bytes starts i (node.BinderCell s y l)
+      → binder-sigil (binders-of bytes i) ≡ (is-sigil s || binder-sigil (binders-of bytes (l .0)))
+  unfolding planted as-binders binder-sigil
+  sigil-cell a = in-cells binder-sigil a
+
+  pub next-cell : {s : Slot} {y : ℕ} {l : NodeNo} → Arm bytes starts i (node.BinderCell s y l)
+      → cells (binders-of bytes i) ≡ cell-of (node-no i) s ++ cells (binders-of bytes (l .0))
+  unfolding planted as-binders cells
+  next-cell a = in-cells cells a
+
+-- no binder cell
+abbrev no-cell-kinds : List ℕ
+no-cell-kinds = 0 ∷ 1 ∷ 2 ∷ 3 ∷ 4 ∷ 5 ∷ 6 ∷ 7 ∷ 8 ∷ 9 ∷ 10 ∷ 11 ∷ 12 ∷ 13 ∷ 14 ∷ 15 ∷ 16 ∷ 17 ∷ 18 ∷ 19 ∷ 20 ∷ 21 ∷ 22 ∷ 23 ∷ 24 ∷ 25 ∷ 26 ∷ 27 ∷ []
+
+-- what is said of a list without a cell
+pub no-cell : {A : Type 0} (f : Binders → A) (v : A) → ((n : NodeNo) → f (no-binder n) ≡ v) → (t : ℕ → Tree) (n : NodeNo) (m : Node)
+    → OneOf no-cell-kinds (tagOf the-type m) → f (as-binders (planted t n m)) ≡ v
+no-cell f v e t n =
+    binders-cases t n (λ m z. OneOf no-cell-kinds (tagOf the-type m) → f z ≡ v)
+    (λ h. e n) (λ s y l h. absurd (miss no-cell-kinds 28 tt h)) (λ m d h. e _)
+
+pub sigil-end : (n : NodeNo) → binder-sigil (no-binder n) ≡ false
+unfolding binder-sigil
+sigil-end n = refl
+
+pub cells-end : (n : NodeNo) → cells (no-binder n) ≡ []
+unfolding cells
+cells-end n = refl
+
+pub no-entry-at-no-cell : (rule : ℕ) (s : Set) → findings (at-cells rule s []) ≡ []
+unfolding findings gather
+no-entry-at-no-cell rule s = refl
+
+-- a rule at a slot of no name
+pub no-cell-entry : (rule : ℕ) (s : Set) (n : NodeNo) (slot : Slot) → OneOf (1 ∷ 2 ∷ []) (tagOf slot-type slot) → findings (at-cells rule s (cell-of n slot)) ≡ []
+unfolding findings gather cell-of
+no-cell-entry rule s n (Name x) h = absurd (miss (1 ∷ 2 ∷ []) 0 tt h)
+no-cell-entry rule s n (Param k) h = refl
+no-cell-entry rule s n (Binder k) h = refl
+
+-- ---- the cells that bind a name outside a set are those that bind one of the list's own names outside it
+
+both-ways : (a b : Bool) → b ≡ true → (b && not a) ≡ not a
+both-ways a true e = refl
+both-ways a false e = absurd (mathlib.Core.Bool.true≢false (sym e))
+
+own-outside : (rule : ℕ) (own a : Set) (l : Binders) → ((x : ℕ) → binder-names l x ≡ true → own x ≡ true)
+    → gather (at-cell rule (own ∖ a)) (cells l) ≡ gather (at-cell rule (outside a)) (cells l)
+unfolding cells gather cell-of at-cell _∖_ _∪_ outside named only binder-names
+own-outside rule own a (no-binder n) h = refl
+own-outside rule own a (binder n s y l) h =
+    gather-append (at-cell rule (own ∖ a)) (cell-of n s) (cells l)
+    ∙ ap₂ {C = List Finding} _++_ (at-slot s (λ x e. h x (left x e))) (own-outside rule own a l (λ x e. h x (right x e)))
+    ∙ sym (gather-append (at-cell rule (outside a)) (cell-of n s) (cells l))
+  where
+    left : (x : ℕ) → named s x ≡ true → binder-names (binder n s y l) x ≡ true
+    left x e = rw e
+
+    right : (x : ℕ) → binder-names l x ≡ true → binder-names (binder n s y l) x ≡ true
+    right x e = rw e (either (named s x))
+      where
+        either : (b : Bool) → (b || true) ≡ true
+        either true = refl
+        either false = refl
+
+    at-slot : (s : Slot) → ((x : ℕ) → named s x ≡ true → own x ≡ true) → gather (at-cell rule (own ∖ a)) (cell-of n s) ≡ gather (at-cell rule (outside a)) (cell-of n s)
+    at-slot (Name x) k = rw (both-ways (a (x .0)) (own (x .0)) (k (x .0) (eq-eqb (x .0) (x .0) refl)))
+    at-slot (Param j) k = refl
+    at-slot (Binder j) k = refl
+
+-- ---- whether it is skipped
+
+module _ {bytes starts : List ℕ} {i : ℕ} where
+  pub in-term : {A : Type 0} (f : Rattle.paper.specs.Tree.Term → A) {m : Node} → Arm bytes starts i m → f (term-of bytes i) ≡ f (as-term (planted (tree-of bytes) (node-no i) m))
+  in-term f a = ap (λ (t : Tree). f (as-term t)) (a .tree)
+
+  pub skips-sum : {s : Slot} {l b : NodeNo} → Arm bytes starts i (node.Sum s l b) → skips (term-of bytes i) ≡ (is-sigil s || binder-sigil (binders-of bytes (l .0)))
+  unfolding planted as-term skips
+  skips-sum a = in-term skips a
+
+  pub skips-count : {l b : NodeNo} → Arm bytes starts i (node.Count l b) → skips (term-of bytes i) ≡ binder-sigil (binders-of bytes (l .0))
+  unfolding planted as-term skips
+  skips-count a = in-term skips a
+
+  pub five-sum : (words scope : Set) {summed : Set} {s : Slot} {l b : NodeNo} → summed ≡ named s → Arm bytes starts i (node.Sum s l b)
+      → five-of words (term-of bytes i) scope ≡ five words (node-no i) summed (binders-of bytes (l .0)) (condition-of bytes (b .0)) scope
+  unfolding planted as-term five-of
+  five-sum words scope {l = l} {b = b} e a =
+      in-term (λ t. five-of words t scope) a
+      ∙ ap (λ (z : Set). five words (node-no i) z (binders-of bytes (l .0)) (condition-of bytes (b .0)) scope) (sym e)
+
+  pub five-count : (words scope : Set) {summed : Set} {l b : NodeNo} → summed ≡ none → Arm bytes starts i (node.Count l b)
+      → five-of words (term-of bytes i) scope ≡ five words (node-no i) summed (binders-of bytes (l .0)) (condition-of bytes (b .0)) scope
+  unfolding planted as-term five-of
+  five-count words scope {l = l} {b = b} e a =
+      in-term (λ t. five-of words t scope) a
+      ∙ ap (λ (z : Set). five words (node-no i) z (binders-of bytes (l .0)) (condition-of bytes (b .0)) scope) (sym e)
+
+-- no aggregate with a body
+abbrev no-body-kinds : List ℕ
+no-body-kinds = 0 ∷ 1 ∷ 2 ∷ 3 ∷ 4 ∷ 5 ∷ 6 ∷ 7 ∷ 8 ∷ 9 ∷ 10 ∷ 11 ∷ 12 ∷ 13 ∷ 14 ∷ 15 ∷ 16 ∷ 17 ∷ 18 ∷ 19 ∷ 20 ∷ 21 ∷ 24 ∷ 25 ∷ 26 ∷ 27 ∷ 28 ∷ []
+
+pub no-skips : (t : ℕ → Tree) (n : NodeNo) (m : Node) → OneOf no-body-kinds (tagOf the-type m) → skips (as-term (planted t n m)) ≡ false
+unfolding skips
+no-skips t n =
+    term-cases t n (λ m z. OneOf no-body-kinds (tagOf the-type m) → skips z ≡ false)
+    (λ x h. refl) (λ h. refl) (λ y h. refl) (λ y h. refl) (λ y h. refl) (λ k h. refl) (λ k h. refl) (λ l h. refl) (λ o l r h. refl)
+    (λ s l b h. absurd (miss no-body-kinds 22 tt h)) (λ l b h. absurd (miss no-body-kinds 23 tt h)) (λ y h. refl) (λ m e h. refl)
+
+no-five : (words scope : Set) (t : ℕ → Tree) (n : NodeNo) (m : Node) → OneOf no-body-kinds (tagOf the-type m) → five-of words (as-term (planted t n m)) scope ≡ []
+unfolding five-of
+no-five words scope t n =
+    term-cases t n (λ m z. OneOf no-body-kinds (tagOf the-type m) → five-of words z scope ≡ [])
+    (λ x h. refl) (λ h. refl) (λ y h. refl) (λ y h. refl) (λ y h. refl) (λ k h. refl) (λ k h. refl) (λ l h. refl) (λ o l r h. refl)
+    (λ s l b h. absurd (miss no-body-kinds 22 tt h)) (λ l b h. absurd (miss no-body-kinds 23 tt h)) (λ y h. refl) (λ m e h. refl)
+
+pub five-none : (words scope : Set) {bytes starts : List ℕ} {i : ℕ} {m : Node} → Arm bytes starts i m → OneOf no-body-kinds (tagOf the-type m)
+    → five-of words (term-of bytes i) scope ≡ []
+five-none words scope a h = in-term (λ t. five-of words t scope) a ∙ no-five words scope _ _ _ h
+
+-- ---- the five rules, over the sets that the code makes
+
+abbrev pub written : Set → NodeNo → List Cell → Set → Set → Set → Set → List Finding
+written words n cs unsummed unknown unused untied =
+    findings (at-cells 22 words cs)
+    ++ (findings (for-names 24 n unsummed)
+    ++ (findings (for-names 25 n unknown) ++ (findings (at-cells 26 unused cs) ++ findings (at-cells 27 untied cs))))
+
+pub five-are : (words : Set) (n : NodeNo) (summed : Set) (l : Binders) (b : Condition) (scope : Set)
+    → gather findings (five words n summed l b scope)
+    ≡ written words n (cells l) (summed ∖ binder-names l) (free b ∖ (scope ∪ binder-names l)) (binder-names l ∖ free b) (binder-names l ∖ restricted b)
+unfolding five gather findings
+five-are words n summed l b scope =
+    ap₂ {C = List Finding} (λ (x y : List Finding). f22 ++ (f24 ++ (f25 ++ (x ++ y))))
+    (sym (own-outside 26 (binder-names l) (free b) l (λ x e. e)))
+    (append-nil _ ∙ sym (own-outside 27 (binder-names l) (restricted b) l (λ x e. e)))
+  where
+    f22 : List Finding
+    f22 = findings (at-cells 22 words (cells l))
+
+    f24 : List Finding
+    f24 = findings (for-names 24 n (summed ∖ binder-names l))
+
+    f25 : List Finding
+    f25 = findings (for-names 25 n (free b ∖ (scope ∪ binder-names l)))

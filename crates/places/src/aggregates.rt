@@ -1,0 +1,175 @@
+// The entries of an aggregate, before its body's.
+use free::binder_names;
+use free::collect_free;
+use free::slot_name;
+use names::Names;
+use paper::Finding;
+use paper::NameNo;
+use paper::Node;
+use paper::NodeNo;
+use paper::Slot;
+use paper::Subject;
+use record::access::node_at;
+use sigils::is_sigil;
+use vars::collect_range_restricted;
+use writes::emit;
+use writes::put;
+ghost use mathlib.Core.Path.{_≡_};
+ghost use Rattle.paper.specs.Places.{at-cells, gather, findings};
+ghost use Rattle.paper.specs.Scoping.{binder-sigil, cell-of, cells};
+ghost use Rattle.names.specs.Words.{mem};
+ghost use Rattle.record.specs.Stored.{Has};
+ghost use Rattle.trees.specs.Trees.{condition-of, term-of, binders-of};
+ghost use Rattle.writes.specs.Written.{Room, Wrote};
+ghost use Rattle.places.specs.Aggregates.{skips, five, five-of};
+
+pub fn has_sigil_binder(bytes: &[u8], starts: &[u16; 512], i: NodeNo) -> bool
+    requires { ⌜ Has (now bytes) (now starts) (i .0) ⌝ }
+    ensures { λ r. ⌜ r ≡ binder-sigil (binders-of (now (bytes .entry)) (i .0)) ⌝ }
+{
+    let node = node_at(bytes, starts, i);
+    match node {
+        Node::BinderCell(slot, _, rest) => is_sigil(slot) || has_sigil_binder(bytes, starts, rest),
+        _ => false,
+    }
+}
+
+// Whether the summed slot or a binder of an aggregate is a sigil.
+pub fn is_skipped(bytes: &[u8], starts: &[u16; 512], i: NodeNo) -> bool
+    requires { ⌜ Has (now bytes) (now starts) (i .0) ⌝ }
+    ensures { λ r. ⌜ r ≡ skips (term-of (now (bytes .entry)) (i .0)) ⌝ }
+{
+    let node = node_at(bytes, starts, i);
+    match node {
+        Node::Sum(slot, binders, _) => is_sigil(slot) || has_sigil_binder(bytes, starts, binders),
+        Node::Count(binders, _) => has_sigil_binder(bytes, starts, binders),
+        _ => false,
+    }
+}
+
+// A rule's entry at a cell, if the cell binds one of some names.
+fn emit_cell(n: NodeNo, slot: Slot, rule: u8, s: Names, out: &mut [u32], at: usize) -> usize
+    requires { ⌜ Room (findings (at-cells rule (mem s) (cell-of n slot))) at ⌝ }
+    ensures { λ r. ⌜ Wrote (findings (at-cells rule (mem s) (cell-of n slot))) at r (now (out .entry)) (now (out .exit)) ⌝ }
+{
+    match slot {
+        Slot::Name(x) => {
+            if names::member(s, x) {
+                let f = Finding {
+                    rule: rule,
+                    node: n,
+                    name: Subject::Name(x),
+                };
+                return put(out, at, f);
+            }
+            at
+        }
+        _ => at,
+    }
+}
+
+// A rule's entry at each cell that binds one of some names.
+fn emit_cells(
+    bytes: &[u8],
+    starts: &[u16; 512],
+    i: NodeNo,
+    rule: u8,
+    s: Names,
+    out: &mut [u32],
+    at: usize,
+) -> usize
+    requires { ⌜ Has (now bytes) (now starts) (i .0) ⌝ }
+    requires { ⌜ Room (findings (at-cells rule (mem s) (cells (binders-of (now bytes) (i .0))))) at ⌝ }
+    ensures { λ r. ⌜ Wrote (findings (at-cells rule (mem s) (cells (binders-of (now (bytes .entry)) (i .0))))) at r (now (out .entry)) (now (out .exit)) ⌝ }
+{
+    let node = node_at(bytes, starts, i);
+    match node {
+        Node::BinderCell(slot, _, rest) => {
+            let p = emit_cell(i, slot, rule, s, out, at);
+            emit_cells(bytes, starts, rest, rule, s, out, p)
+        }
+        _ => at,
+    }
+}
+
+// 22 at the cells, 24 and 25 at the aggregate, 26 and 27 at the cells.
+fn check_aggregation(
+    bytes: &[u8],
+    starts: &[u16; 512],
+    n: NodeNo,
+    summed: Names,
+    binders: NodeNo,
+    body: NodeNo,
+    scope: Names,
+    words: Names,
+    out: &mut [u32],
+    at: usize,
+) -> usize
+    requires { ⌜ Has (now bytes) (now starts) (binders .0) × Has (now bytes) (now starts) (body .0) ⌝ }
+    requires { ⌜ Room (gather findings (five (mem words) n (mem summed) (binders-of (now bytes) (binders .0)) (condition-of (now bytes) (body .0)) (mem scope))) at ⌝ }
+    ensures { λ r. ⌜ Wrote (gather findings (five (mem words) n (mem summed) (binders-of (now (bytes .entry)) (binders .0)) (condition-of (now (bytes .entry)) (body .0)) (mem scope))) at r (now (out .entry)) (now (out .exit)) ⌝ }
+{
+    let own = binder_names(bytes, starts, binders);
+    let inner = collect_free(bytes, starts, body);
+    let tied = collect_range_restricted(bytes, starts, body);
+    let known = names::union(scope, own);
+    let unsummed = names::minus(summed, own);
+    let unknown = names::minus(inner, known);
+    let unused = names::minus(own, inner);
+    let untied = names::minus(own, tied);
+    let a = emit_cells(bytes, starts, binders, 22, words, out, at);
+    let b = emit(out, a, 24, n, unsummed);
+    let c = emit(out, b, 25, n, unknown);
+    let d = emit_cells(bytes, starts, binders, 26, unused, out, c);
+    emit_cells(bytes, starts, binders, 27, untied, out, d)
+}
+
+// The same of the aggregate that a node is.
+pub fn check_agg_expr(
+    bytes: &[u8],
+    starts: &[u16; 512],
+    i: NodeNo,
+    scope: Names,
+    words: Names,
+    out: &mut [u32],
+    at: usize,
+) -> usize
+    requires { ⌜ Has (now bytes) (now starts) (i .0) ⌝ }
+    requires { ⌜ Room (gather findings (five-of (mem words) (term-of (now bytes) (i .0)) (mem scope))) at ⌝ }
+    ensures { λ r. ⌜ Wrote (gather findings (five-of (mem words) (term-of (now (bytes .entry)) (i .0)) (mem scope))) at r (now (out .entry)) (now (out .exit)) ⌝ }
+{
+    let node = node_at(bytes, starts, i);
+    match node {
+        Node::Sum(slot, binders, body) => {
+            let summed = slot_name(slot);
+            check_aggregation(
+                bytes,
+                starts,
+                i,
+                summed,
+                binders,
+                body,
+                scope,
+                words,
+                out,
+                at,
+            )
+        }
+        Node::Count(binders, body) => {
+            let summed = names::empty();
+            check_aggregation(
+                bytes,
+                starts,
+                i,
+                summed,
+                binders,
+                body,
+                scope,
+                words,
+                out,
+                at,
+            )
+        }
+        _ => at,
+    }
+}

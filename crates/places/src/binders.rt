@@ -1,0 +1,66 @@
+// The binder of an exists, and the slot of a tp.
+use free::slot_name;
+use names::Names;
+use paper::NodeNo;
+use paper::Slot;
+use sigils::body_has_sigil;
+use vars::collect_range_restricted;
+use writes::emit;
+ghost use mathlib.Core.Path.{_≡_};
+ghost use Rattle.paper.specs.Record.{pick};
+ghost use Rattle.paper.specs.Sets.{none, _∩_, _∖_};
+ghost use Rattle.paper.specs.FreeAndRestricted.{named, restricted, holds-sigil};
+ghost use Rattle.paper.specs.Places.{for-names, findings};
+ghost use Rattle.names.specs.Words.{mem};
+ghost use Rattle.record.specs.Stored.{Has};
+ghost use Rattle.trees.specs.Trees.{condition-of};
+ghost use Rattle.trees.specs.Terms.{Tabled};
+ghost use Rattle.writes.specs.Written.{Room, Wrote};
+
+// 22, if the slot's name is a reserved word.
+pub fn reject_reserved_binder(
+    n: NodeNo,
+    slot: Slot,
+    words: Names,
+    out: &mut [u32],
+    at: usize,
+) -> usize
+    requires { ⌜ Tabled slot ⌝ }
+    requires { ⌜ Room (findings (for-names 22 n (named slot ∩ mem words))) at ⌝ }
+    ensures { λ r. ⌜ Wrote (findings (for-names 22 n (named slot ∩ mem words))) at r (now (out .entry)) (now (out .exit)) ⌝ }
+{
+    let own = slot_name(slot);
+    let taken = names::common(own, words);
+    emit(out, at, 22, n, taken)
+}
+
+// The slot's name, unless the body restricts it or holds a sigil.
+fn unsafe_name(bytes: &[u8], starts: &[u16; 512], slot: Slot, body: NodeNo) -> Names
+    requires { ⌜ Tabled slot × Has (now bytes) (now starts) (body .0) ⌝ }
+    ensures { λ r. ⌜ mem r ≡ pick (holds-sigil (condition-of (now (bytes .entry)) (body .0))) none (named slot ∖ restricted (condition-of (now (bytes .entry)) (body .0))) ⌝ }
+{
+    if body_has_sigil(bytes, starts, body) {
+        return names::empty();
+    }
+    let own = slot_name(slot);
+    let tied = collect_range_restricted(bytes, starts, body);
+    names::minus(own, tied)
+}
+
+// 23, if the slot's name is not restricted in the body.
+pub fn check_exists_safe(
+    bytes: &[u8],
+    starts: &[u16; 512],
+    n: NodeNo,
+    slot: Slot,
+    body: NodeNo,
+    out: &mut [u32],
+    at: usize,
+) -> usize
+    requires { ⌜ Tabled slot × Has (now bytes) (now starts) (body .0) ⌝ }
+    requires { ⌜ Room (findings (for-names 23 n (pick (holds-sigil (condition-of (now bytes) (body .0))) none (named slot ∖ restricted (condition-of (now bytes) (body .0)))))) at ⌝ }
+    ensures { λ r. ⌜ Wrote (findings (for-names 23 n (pick (holds-sigil (condition-of (now (bytes .entry)) (body .0))) none (named slot ∖ restricted (condition-of (now (bytes .entry)) (body .0)))))) at r (now (out .entry)) (now (out .exit)) ⌝ }
+{
+    let loose = unsafe_name(bytes, starts, slot, body);
+    emit(out, at, 23, n, loose)
+}

@@ -1,0 +1,32 @@
+-- What a walk leaves in the lent buffer: its entries from a place on, as far as there is room. The count goes on past the end, so that an empty buffer
+-- counts, a buffer of one entry has the first, and one with room has them all. Assumes nothing: these are definitions.
+use Prim.Native.Nat.{ℕ, _+_, _<_, _^_}
+use mathlib.Core.Path.{_≡_}
+use mathlib.Core.Bool.{cond}
+use mathlib.Core.List.{List, [], _∷_, map}
+use lib.ListN.{length}
+use lib.Seq.{sets}
+use Rattle.paper.specs.declared.NodeNo.{NodeNo}
+use Rattle.paper.specs.declared.Subject.the-variants.{Name}
+use Rattle.paper.specs.declared.Finding.{Finding}
+use Rattle.paper.specs.Sets.{Set}
+use Rattle.paper.specs.Record.{name-no}
+use Rattle.paper.specs.TheList.{pack}
+
+-- the count of so many entries more does not overflow
+pub record Room (fs : List Finding) (at : ℕ) : Type 0 where
+  pub left : at + length fs < 2 ^ 64
+
+pub record Wrote (fs : List Finding) (at next : ℕ) (before after : List ℕ) : Type 0 where
+  pub total : next ≡ at + length fs
+  pub put : after ≡ sets before at (map pack fs)
+
+-- a rule's entries at a node for some names, and for one name if it is in a set
+abbrev pub made : ℕ → NodeNo → ℕ → Finding
+made rule n x = record { rule = rule; node = n; name = Name (name-no x) }
+
+abbrev pub entries-for : ℕ → NodeNo → List ℕ → List Finding
+entries-for rule n xs = map (made rule n) xs
+
+abbrev pub entry-for : ℕ → NodeNo → Set → ℕ → List Finding
+entry-for rule n s x = entries-for rule n (cond (s x) (x ∷ []) [])

@@ -1,0 +1,97 @@
+// Entries into a lent buffer, as far as it has room.
+use names::Names;
+use paper::Finding;
+use paper::NameNo;
+use paper::NodeNo;
+use paper::Subject;
+ghost use mathlib.Core.Path.{_≡_};
+ghost use mathlib.Core.List.{[], _∷_, map};
+ghost use Prim.Native.Nat.{_<_};
+ghost use Rattle.paper.specs.TheList.{about as abouts, name-or-255, pack as packs, unpack as unpacks};
+ghost use Rattle.paper.specs.Places.{for-names, findings};
+ghost use Rattle.names.specs.Words.{mem};
+ghost use Rattle.writes.specs.Written.{Room, Wrote, entry-for};
+
+fn name_or_255(s: Subject) -> u8
+    ensures { λ r. ⌜ r ≡ name-or-255 s ⌝ }
+{
+    match s {
+        Subject::Name(x) => x.0,
+        Subject::NoName => 255,
+    }
+}
+
+// An entry as document 01's number.
+fn pack(f: Finding) -> u32
+    ensures { λ r. ⌜ r ≡ packs f ⌝ }
+{
+    let subject = f.name;
+    let name = name_or_255(subject);
+    (f.rule as u32) * 16777216 + (f.node.0 as u32) * 256 + (name as u32)
+}
+
+fn about(x: u8) -> Subject
+    ensures { λ r. ⌜ r ≡ abouts x ⌝ }
+{
+    if x == 255 {
+        return Subject::NoName;
+    }
+    Subject::Name(NameNo(x))
+}
+
+// The entry that a number stands for.
+pub fn unpack(v: u32) -> Finding
+    ensures { λ r. ⌜ r ≡ unpacks v ⌝ }
+{
+    let name = about((v % 256) as u8);
+    Finding {
+        rule: (v / 16777216) as u8,
+        node: NodeNo((v / 256 % 65536) as u16),
+        name: name,
+    }
+}
+
+// One entry, if there is room for it; the count goes on either way.
+pub fn put(out: &mut [u32], at: usize, f: Finding) -> usize
+    requires { ⌜ Room (f ∷ []) at ⌝ }
+    ensures { λ r. ⌜ Wrote (f ∷ []) at r (now (out .entry)) (now (out .exit)) ⌝ }
+{
+    if at < out.len() {
+        out[at] = pack(f);
+    }
+    at + 1
+}
+
+// The entry of a rule at a node for one name, if the name is in the set.
+fn emit_name(out: &mut [u32], at: usize, rule: u8, n: NodeNo, s: Names, x: u8) -> usize
+    requires { ⌜ Room (entry-for rule n (mem s) x) at ⌝ }
+    ensures { λ r. ⌜ Wrote (entry-for rule n (mem s) x) at r (now (out .entry)) (now (out .exit)) ⌝ }
+{
+    let name = NameNo(x);
+    if names::member(s, name) {
+        let f = Finding {
+            rule: rule,
+            node: n,
+            name: Subject::Name(name),
+        };
+        return put(out, at, f);
+    }
+    at
+}
+
+// The entries of a rule at a node for each name of a set, ascending.
+pub fn emit(out: &mut [u32], at: usize, rule: u8, n: NodeNo, s: Names) -> usize
+    requires { ⌜ Room (findings (for-names rule n (mem s))) at ⌝ }
+    ensures { λ r. ⌜ Wrote (findings (for-names rule n (mem s))) at r (now (out .entry)) (now (out .exit)) ⌝ }
+{
+    if names::is_empty(s) {
+        return at;
+    }
+    let mut p = at;
+    let mut x: u8 = 0;
+    while x < 128 {
+        p = emit_name(out, p, rule, n, s, x);
+        x = x + 1;
+    }
+    p
+}
