@@ -2,7 +2,6 @@
 pub mod HeadLaws
 pub mod EndLaws
 pub mod Lying
-pub mod NameLaws
 pub mod ReadLaws
 pub mod Verdicts
 pub mod StoredLaws

@@ -23,7 +23,7 @@ use Rattle.names.specs.declared.Names.{Names}
 use Rattle.fields.specs.Rows.{row-for, row-at}
 use Rattle.fields.specs.Memory.{Marks, Shows, Marked, Same, checked-in}
 use Rattle.record.specs.Heads.{head-by, order-by}
-use Rattle.record.specs.Names.{named-in, noted-in}
+use Rattle.table.specs.Names.{named-in, noted-in}
 use Rattle.record.specs.Ends.{ended-in}
 use Rattle.record.specs.Arena.{start-of, Holds, Read}
 use Rattle.record.specs.declared.reader.Reading.{Reading}
@@ -34,7 +34,7 @@ use Rattle.fields.proofs.KindLaws.{known, class-format, class-name, class-node}
 use Rattle.record.proofs.HeadLaws.{head, step-bad, step-format, step-name, step-node, step-end}
 use Rattle.record.proofs.EndLaws.{end-said}
 use Rattle.record.proofs.Lying.{Reached, start, keeps, long-by-one}
-use Rattle.record.proofs.NameLaws.{reserved-more, name-step}
+use Rattle.table.proofs.NameLaws.{reserved-more, name-step}
 
 -- ---- what the loop's locals say
 

@@ -3,4 +3,3 @@ pub mod access;
 pub mod ends;
 pub mod heads;
 pub mod reader;
-pub mod table;

@@ -8,7 +8,7 @@ ghost use mathlib.Core.Path.{_≡_};
 ghost use Prim.Native.Nat.{_≤_, _<_};
 ghost use Rattle.paper.specs.Sets.{_∪_};
 ghost use Rattle.names.specs.Words.{mem};
-ghost use Rattle.record.specs.Names.{named-in, noted-in};
+ghost use Rattle.table.specs.Names.{named-in, noted-in};
 
 // The fault of a new name, or 0: 4 where it is none, 5 where it is not above the one before.
 pub fn named(n: [u8; 24], names: &[[u8; 24]; 128], count: usize) -> u8

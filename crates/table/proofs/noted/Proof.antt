@@ -4,10 +4,10 @@ use native.Mathlib.Nat.{mod-eq-of-lt}
 use native.Mathlib.Omega.{arith}
 use Rattle.paper.specs.Sets.{Set, only, _∪_}
 use Rattle.names.specs.Words.{mem}
-use Rattle.record.proofs.NameLaws.{noted-yes, noted-no}
+use Rattle.table.proofs.NameLaws.{noted-yes, noted-no}
 use borrow.Author.Needs.{needs}
-use Rattle.record.proofs.table.noted.Statement.{statement}
-use Rattle.record.proofs.table.noted.Tie as tie
+use Rattle.table.proofs.noted.Statement.{statement}
+use Rattle.table.proofs.noted.Tie as tie
 
 is-reserved-requires : tie.Need-is-reserved-requires
 is-reserved-requires c κs = search needs

@@ -6,7 +6,7 @@ use Prim.Native.Nat.{ℕ, zero, suc, _+_, _-_, _≤_, _<_}
 use native.Mathlib.Omega.{arith}
 use native.Mathlib.Decide.{decLt, ℕ-discrete}
 use lib.Dec.{eqb}
-use lib.ListN.{length, getD, take, List·getD-append, List·getD-eq-default}
+use lib.ListN.{length, getD, take, length-append, List·getD-append, List·getD-eq-default}
 use lib.Seq.{getD-take}
 use borrow.Author.Tests.{eq-eqb, ne-eqb}
 use Rattle.paper.specs.Sets.{Set, only, _∪_}
@@ -14,8 +14,7 @@ use Rattle.paper.specs.Record.{pick, is-name, precedes, ascii}
 use Rattle.paper.specs.TurnedAway.{SoFar, on, stop, refused, last-name, read-name}
 use Rattle.paper.specs.Scoping.{is-word, is-reserved, reserved}
 use Rattle.paper.proofs.Runs.{after-name, last-of}
-use Rattle.record.specs.Names.{named-in, noted-in}
-use Rattle.record.proofs.Lying.{long-by-one}
+use Rattle.table.specs.Names.{named-in, noted-in}
 
 -- ---- reserved names
 
@@ -42,7 +41,7 @@ reserved-more names n = fun-ext (λ k. at k (decLt k (length names)) (ℕ-discre
     at k (no h) (yes e) = rw (last-of names n [] k e, List·getD-eq-default names [] {n = k} (omega arith), no-word, eq-eqb k (length names) e)
     at k (no h) (no g) =
         rw (
-          List·getD-eq-default (names ++ (n ∷ [])) [] {n = k} (let l = long-by-one names n in omega arith),
+          List·getD-eq-default (names ++ (n ∷ [])) [] {n = k} (let l = length-append names (n ∷ []) in omega arith),
           List·getD-eq-default names [] {n = k} (omega arith),
           no-word,
           ne-eqb k (length names) g,

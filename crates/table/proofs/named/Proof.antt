@@ -1,9 +1,9 @@
 use mathlib.Core.Path.{sym, _∙_}
 use borrow.Author.Tests.{eq-eqb, ne-eqb, not-true, not-false}
-use Rattle.record.specs.Names.{named-in}
+use Rattle.table.specs.Names.{named-in}
 use borrow.Author.Needs.{needs}
-use Rattle.record.proofs.table.named.Statement.{statement}
-use Rattle.record.proofs.table.named.Tie as tie
+use Rattle.table.proofs.named.Statement.{statement}
+use Rattle.table.proofs.named.Tie as tie
 
 is-name-requires : tie.Need-is-name-requires
 is-name-requires c κs = search needs
