@@ -1,6 +1,4 @@
 -- The laws that the reader's proofs cite.
-pub mod HeadLaws
-pub mod EndLaws
 pub mod Lying
 pub mod ReadLaws
 pub mod Verdicts

@@ -1,9 +1,9 @@
 // The loop over the records.
-use crate::ends::ended;
-use crate::heads::Head;
-use crate::heads::head_of;
 use fields::fields::checked;
 use fields::rows::row_of;
+use heads::ends::ended;
+use heads::heads::Head;
+use heads::heads::head_of;
 use names::Names;
 use octets::byte;
 use octets::wide;

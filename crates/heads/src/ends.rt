@@ -2,7 +2,7 @@
 ghost use mathlib.Core.Path.{_≡_};
 ghost use Prim.Native.Nat.{_≤_};
 ghost use Rattle.paper.specs.Sets.{all-below};
-ghost use Rattle.record.specs.Ends.{marks, rooted-in, ended-in};
+ghost use Rattle.heads.specs.Ends.{marks, rooted-in, ended-in};
 use fields::fields::fits;
 use octets::long;
 use octets::number;

@@ -5,10 +5,10 @@ use native.Mathlib.Omega.{arith}
 use borrow.Author.Needs.{needs}
 use borrow.Author.Tests.{ne-eqb}
 use Rattle.paper.specs.Sets.{all-below}
-use Rattle.record.specs.Ends.{marks}
-use Rattle.record.proofs.EndLaws.{all-stop, all-more}
-use Rattle.record.proofs.ends.all_marked.Statement.{statement}
-use Rattle.record.proofs.ends.all_marked.Tie as tie
+use Rattle.heads.specs.Ends.{marks}
+use Rattle.heads.proofs.EndLaws.{all-stop, all-more}
+use Rattle.heads.proofs.ends.all_marked.Statement.{statement}
+use Rattle.heads.proofs.ends.all_marked.Tie as tie
 
 abbrev Inv-loop : tie.InvT-loop
 Inv-loop used n i₀ i = (i ≤ n) × (all-below i (marks used) ≡ true)

@@ -1,6 +1,6 @@
 // What a kind byte, and how much follows it, say of a record.
 ghost use mathlib.Core.Path.{_≡_};
-ghost use Rattle.record.specs.Heads.{order-by, full-by, Headed};
+ghost use Rattle.heads.specs.Heads.{order-by, full-by, Headed};
 use fields::rows::Row;
 use octets::wide;
 

@@ -12,7 +12,7 @@ use Rattle.paper.specs.Sets.{Set, all-below}
 use Rattle.paper.specs.Record.{pick, condition, fits, two-bytes}
 use Rattle.paper.specs.TurnedAway.{Seen, unseen, SoFar, Outcome, verdict, read-end}
 use Rattle.fields.specs.Memory.{Marks, Shows}
-use Rattle.record.specs.Ends.{marks, rooted-in, ended-in}
+use Rattle.heads.specs.Ends.{marks, rooted-in, ended-in}
 
 -- ---- all below a number
 

@@ -1,7 +1,7 @@
 -- `heads::full` meets its contract: its test is the definition's. Assumes nothing.
-use Rattle.record.specs.Heads.{full-by}
-use Rattle.record.proofs.heads.full.Statement.{statement}
-use Rattle.record.proofs.heads.full.Tie as tie
+use Rattle.heads.specs.Heads.{full-by}
+use Rattle.heads.proofs.heads.full.Statement.{statement}
+use Rattle.heads.proofs.heads.full.Tie as tie
 use mathlib.Core.Path.{refl}
 
 returns : tie.Need-returns

@@ -1,7 +1,7 @@
 -- `heads::order` meets its contract: its test is the definition's. Assumes nothing.
-use Rattle.record.specs.Heads.{order-by}
-use Rattle.record.proofs.heads.order.Statement.{statement}
-use Rattle.record.proofs.heads.order.Tie as tie
+use Rattle.heads.specs.Heads.{order-by}
+use Rattle.heads.proofs.heads.order.Statement.{statement}
+use Rattle.heads.proofs.heads.order.Tie as tie
 use mathlib.Core.Path.{refl}
 
 returns : tie.Need-returns

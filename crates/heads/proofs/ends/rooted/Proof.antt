@@ -1,8 +1,8 @@
 use borrow.Author.Tests.{eq-eqb, ne-eqb}
-use Rattle.record.specs.Ends.{rooted-in}
+use Rattle.heads.specs.Ends.{rooted-in}
 use borrow.Author.Needs.{needs}
-use Rattle.record.proofs.ends.rooted.Statement.{statement}
-use Rattle.record.proofs.ends.rooted.Tie as tie
+use Rattle.heads.proofs.ends.rooted.Statement.{statement}
+use Rattle.heads.proofs.ends.rooted.Tie as tie
 
 turned-away-requires : tie.Need-turned-away-requires
 turned-away-requires c κs = search needs

@@ -6,9 +6,9 @@ use native.Mathlib.Omega.{arith}
 use lib.Dec.{leb}
 use borrow.Author.Tests.{le-leb, lt-leb, leb-false, eq-eqb, ne-eqb, not-true, not-false}
 use borrow.Author.Needs.{needs}
-use Rattle.record.specs.Heads.{head-by, order-by, full-by}
-use Rattle.record.proofs.heads.head_of.Statement.{statement}
-use Rattle.record.proofs.heads.head_of.Tie as tie
+use Rattle.heads.specs.Heads.{head-by, order-by, full-by}
+use Rattle.heads.proofs.heads.head_of.Statement.{statement}
+use Rattle.heads.proofs.heads.head_of.Tie as tie
 
 or-left : (a : Bool) → (a || false) ≡ false → a ≡ false
 or-left true e = e

@@ -1,8 +1,8 @@
 use Rattle.paper.specs.Record.{two-bytes}
-use Rattle.record.specs.Ends.{ended-in}
+use Rattle.heads.specs.Ends.{ended-in}
 use borrow.Author.Needs.{needs}
-use Rattle.record.proofs.ends.ended.Statement.{statement}
-use Rattle.record.proofs.ends.ended.Tie as tie
+use Rattle.heads.proofs.ends.ended.Statement.{statement}
+use Rattle.heads.proofs.ends.ended.Tie as tie
 
 number-requires : tie.Need-number-requires
 number-requires c κs = search needs

@@ -8,9 +8,9 @@ use lib.ListN.{length, take}
 use Rattle.paper.specs.Record.{pick, Kind, Announced, format, name, end, unknown, node, announced, body-bytes}
 use Rattle.paper.specs.TurnedAway.{SoFar, in-order, full, Step, stop, refused, read-format, read-name, read-node, read-end, read-body, read-record}
 use Rattle.fields.specs.Rows.{row-for, row-at}
-use Rattle.record.specs.Heads.{order-by, full-by, head-at, head-by}
-use Rattle.record.specs.declared.heads.Head.{Head}
-use Rattle.record.specs.declared.heads.Head.the-variants.{Bad, Format, Name, Node, End}
+use Rattle.heads.specs.Heads.{order-by, full-by, head-at, head-by}
+use Rattle.heads.specs.declared.heads.Head.{Head}
+use Rattle.heads.specs.declared.heads.Head.the-variants.{Bad, Format, Name, Node, End}
 
 module _ (b : List ℕ) (so : SoFar) where
   by-head : Head → Announced → Step

@@ -5,8 +5,8 @@ use mathlib.Core.Bool.{Bool, true, false, not, _&&_, _||_}
 use lib.Dec.{eqb, leb}
 use Rattle.paper.specs.Record.{pick}
 use Rattle.fields.specs.declared.rows.Row.{Row}
-use Rattle.record.specs.declared.heads.Head.{Head}
-use Rattle.record.specs.declared.heads.Head.the-variants.{Bad, Format, Name, Node, End}
+use Rattle.heads.specs.declared.heads.Head.{Head}
+use Rattle.heads.specs.declared.heads.Head.the-variants.{Bad, Format, Name, Node, End}
 
 -- a class of records in its order: the format record first, names before nodes
 unfoldable pub order-by : ℕ → Bool → ℕ → Bool
