@@ -1,3 +1,4 @@
+-- `named` meets its contract: each return has the tests that led to it. Assumes nothing.
 use mathlib.Core.Path.{sym, _∙_}
 use borrow.Author.Tests.{eq-eqb, ne-eqb, not-true, not-false}
 use Rattle.table.specs.Names.{named-in}

@@ -1,3 +1,4 @@
+-- `noted` meets its contract: it adds the new name's number where the name is a reserved word, and nothing elsewhere. Assumes nothing.
 use mathlib.Core.Path.{_≡_, sym, ap, _∙_}
 use Prim.Native.Nat.{_%_}
 use native.Mathlib.Nat.{mod-eq-of-lt}

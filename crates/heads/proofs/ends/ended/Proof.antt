@@ -1,3 +1,4 @@
+-- `ends::ended` meets its contract: its test is the definition's, and `rooted` says the rest. Assumes nothing.
 use Rattle.paper.specs.Record.{two-bytes}
 use Rattle.heads.specs.Ends.{ended-in}
 use borrow.Author.Needs.{needs}

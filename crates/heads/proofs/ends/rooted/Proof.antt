@@ -1,3 +1,4 @@
+-- `ends::rooted` meets its contract: each return has the tests that led to it. Assumes nothing.
 use borrow.Author.Tests.{eq-eqb, ne-eqb}
 use Rattle.heads.specs.Ends.{rooted-in}
 use borrow.Author.Needs.{needs}
