@@ -1,8 +1,5 @@
 -- The laws that the reader's proofs cite.
-pub mod HeadLaws
-pub mod EndLaws
 pub mod Lying
-pub mod NameLaws
 pub mod ReadLaws
 pub mod Verdicts
 pub mod StoredLaws

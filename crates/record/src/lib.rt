@@ -1,6 +1,3 @@
 // The reader of records, and what it read by number.
 pub mod access;
-pub mod ends;
-pub mod heads;
 pub mod reader;
-pub mod table;

@@ -1,15 +1,15 @@
 // The loop over the records.
-use crate::ends::ended;
-use crate::heads::Head;
-use crate::heads::head_of;
-use crate::table::named;
-use crate::table::noted;
 use fields::fields::checked;
 use fields::rows::row_of;
+use heads::ends::ended;
+use heads::heads::Head;
+use heads::heads::head_of;
 use names::Names;
 use octets::byte;
 use octets::wide;
 use paper::Verdict;
+use table::named;
+use table::noted;
 use words::copied;
 ghost use mathlib.Core.Path.{_≡_};
 ghost use Rattle.paper.specs.declared.Verdict.the-variants.{Refused};

@@ -12,7 +12,7 @@ use Rattle.paper.specs.declared.Verdict.the-variants.{Refused}
 use Rattle.paper.specs.Record.{Announced, announced, body-bytes}
 use Rattle.fields.specs.Rows.{row-for, row-at}
 use Rattle.fields.specs.Memory.{Marked, told, checked-in}
-use Rattle.record.specs.Heads.{head-by}
+use Rattle.heads.specs.Heads.{head-by}
 use Rattle.fields.specs.declared.rows.Row.{Row}
 use Rattle.fields.proofs.KindLaws.{row-length, class-name}
 use Rattle.record.proofs.ReadLaws.{Looped, counts, out, bad-turn, format-bad, format-turn, name-bad, name-turn, shallow, node-bad, node-turn-by, end-verdict, end-holds, refused-read, loop-start}

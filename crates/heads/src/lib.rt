@@ -1,0 +1,3 @@
+// The head of a record, and the end record.
+pub mod ends;
+pub mod heads;

@@ -1,0 +1,2 @@
+-- The laws of a new name, which the reader cites too.
+pub mod NameLaws

@@ -1,0 +1,2 @@
+-- A new name over the reader's table.
+pub mod Names

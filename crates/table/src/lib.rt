@@ -1,0 +1,37 @@
+// The table of names, as it grows.
+use names::Names;
+use paper::NameNo;
+use words::is_name;
+use words::is_reserved;
+use words::precedes;
+ghost use mathlib.Core.Path.{_≡_};
+ghost use Prim.Native.Nat.{_≤_, _<_};
+ghost use Rattle.paper.specs.Sets.{_∪_};
+ghost use Rattle.names.specs.Words.{mem};
+ghost use Rattle.table.specs.Names.{named-in, noted-in};
+
+// The fault of a new name, or 0: 4 where it is none, 5 where it is not above the one before.
+pub fn named(n: [u8; 24], names: &[[u8; 24]; 128], count: usize) -> u8
+    requires { ⌜ count ≤ 128 ⌝ }
+    ensures { λ r. ⌜ r ≡ named-in n (now (names .entry)) count ⌝ }
+{
+    if !is_name(n) {
+        return 4;
+    }
+    if count == 0 {
+        return 0;
+    }
+    let last = names[count - 1];
+    if precedes(last, n) { 0 } else { 5 }
+}
+
+// The reserved names, with one name more.
+pub fn noted(reserved: Names, n: [u8; 24], x: usize) -> Names
+    requires { ⌜ x < 128 ⌝ }
+    ensures { λ r. ⌜ mem r ≡ mem reserved ∪ noted-in n x ⌝ }
+{
+    if is_reserved(n) {
+        return names::union(reserved, names::single(NameNo((x % 256) as u8)));
+    }
+    reserved
+}
