@@ -85,7 +85,7 @@ all-pick : (C : Place → Type 0) (b : Bool) (l : List Place) → All C l → Al
 all-pick C true l a = tt
 all-pick C false l a = a
 
-abbrev at : Spot → Set → Bool → Place
+abbrev pub at : Spot → Set → Bool → Place
 at s names asked = record { spot = s; names = names; asked = asked }
 
 scope-shrinks-at : (s : Spot) (n : Set) (a : Bool) → All (λ q. extent q < spot-size s) (scope-below (at s n a))

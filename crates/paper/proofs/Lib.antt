@@ -11,3 +11,4 @@ pub mod Fields
 pub mod Weights
 pub mod Forests
 pub mod WellFormed
+pub mod Lengths
