@@ -12,3 +12,4 @@ pub mod Weights
 pub mod Forests
 pub mod WellFormed
 pub mod Lengths
+pub mod Sane
