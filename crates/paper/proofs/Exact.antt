@@ -81,7 +81,7 @@ spot-pos (searched-items l) = items-pos l
 pub extent-pos : (p : Place) → 0 < extent p
 extent-pos p = spot-pos (p .spot)
 
-all-pick : (C : Place → Type 0) (b : Bool) (l : List Place) → All C l → All C (pick b [] l)
+pub all-pick : {A : Type 0} (C : A → Type 0) (b : Bool) (l : List A) → All C l → All C (pick b [] l)
 all-pick C true l a = tt
 all-pick C false l a = a
 

@@ -13,3 +13,5 @@ pub mod Forests
 pub mod WellFormed
 pub mod Lengths
 pub mod Sane
+pub mod SanePlaces
+pub mod Fitting

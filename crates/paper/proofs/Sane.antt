@@ -28,49 +28,46 @@ use Rattle.paper.proofs.WellFormed.{WellFormed}
 -- ---- every node number is below N, and every name below M
 
 module _ (N M : ℕ) where
-  abbrev pub Numbered : NodeNo → Type 0
-  Numbered n = n .0 < N
-
   -- the slot's name, if it has one
   abbrev pub Tabled : Slot → Type 0
   Tabled s = All (λ x. x < M) (slot-names s)
 
   abbrev mutual
     pub Sane : Condition → Type 0
-    Sane (And n l r) = Numbered n × Sane l × Sane r
-    Sane (Or n l r) = Numbered n × Sane l × Sane r
-    Sane (Not n b) = Numbered n × Sane b
-    Sane (Past n k b w) = Numbered n × Sane b
-    Sane (Since n l r w) = Numbered n × Sane l × Sane r
-    Sane (Exists n s y b) = Numbered n × Tabled s × Sane b
-    Sane (Comparison n o l r) = Numbered n × SaneTerm l × SaneTerm r
-    Sane (Predicate n a l) = Numbered n × SaneArguments l
-    Sane (Refine n b l) = Numbered n × Sane b × SaneArguments l
-    Sane (Tp n s) = Numbered n × Tabled s
-    Sane (Opaque n k y) = Numbered n
+    Sane (And n l r) = (n .0 < N) × Sane l × Sane r
+    Sane (Or n l r) = (n .0 < N) × Sane l × Sane r
+    Sane (Not n b) = (n .0 < N) × Sane b
+    Sane (Past n k b w) = (n .0 < N) × Sane b
+    Sane (Since n l r w) = (n .0 < N) × Sane l × Sane r
+    Sane (Exists n s y b) = (n .0 < N) × Tabled s × Sane b
+    Sane (Comparison n o l r) = (n .0 < N) × SaneTerm l × SaneTerm r
+    Sane (Predicate n a l) = (n .0 < N) × SaneArguments l
+    Sane (Refine n b l) = (n .0 < N) × Sane b × SaneArguments l
+    Sane (Tp n s) = (n .0 < N) × Tabled s
+    Sane (Opaque n k y) = n .0 < N
 
     pub SaneTerm : Term → Type 0
-    SaneTerm (Var n x) = Numbered n × (x .0 < M)
-    SaneTerm (Wildcard n) = Numbered n
-    SaneTerm (Value n k y) = Numbered n
-    SaneTerm (Sigil n k i) = Numbered n
-    SaneTerm (Array n l) = Numbered n × SaneItems l
-    SaneTerm (Arith n o l r) = Numbered n × SaneTerm l × SaneTerm r
-    SaneTerm (Sum n s l b) = Numbered n × Tabled s × SaneBinders l × Sane b
-    SaneTerm (Count n l b) = Numbered n × SaneBinders l × Sane b
-    SaneTerm (AggregateCall n y) = Numbered n
+    SaneTerm (Var n x) = (n .0 < N) × (x .0 < M)
+    SaneTerm (Wildcard n) = n .0 < N
+    SaneTerm (Value n k y) = n .0 < N
+    SaneTerm (Sigil n k i) = n .0 < N
+    SaneTerm (Array n l) = (n .0 < N) × SaneItems l
+    SaneTerm (Arith n o l r) = (n .0 < N) × SaneTerm l × SaneTerm r
+    SaneTerm (Sum n s l b) = (n .0 < N) × Tabled s × SaneBinders l × Sane b
+    SaneTerm (Count n l b) = (n .0 < N) × SaneBinders l × Sane b
+    SaneTerm (AggregateCall n y) = n .0 < N
 
     pub SaneArguments : Arguments → Type 0
-    SaneArguments (no-argument n) = Numbered n
-    SaneArguments (argument n f t l) = Numbered n × SaneTerm t × SaneArguments l
+    SaneArguments (no-argument n) = n .0 < N
+    SaneArguments (argument n f t l) = (n .0 < N) × SaneTerm t × SaneArguments l
 
     pub SaneItems : Items → Type 0
-    SaneItems (no-item n) = Numbered n
-    SaneItems (item n t l) = Numbered n × SaneTerm t × SaneItems l
+    SaneItems (no-item n) = n .0 < N
+    SaneItems (item n t l) = (n .0 < N) × SaneTerm t × SaneItems l
 
     pub SaneBinders : Binders → Type 0
-    SaneBinders (no-binder n) = Numbered n
-    SaneBinders (binder n s y l) = Numbered n × Tabled s × SaneBinders l
+    SaneBinders (no-binder n) = n .0 < N
+    SaneBinders (binder n s y l) = (n .0 < N) × Tabled s × SaneBinders l
 
   -- a tree of any sort
   abbrev SaneTree : Tree → Type 0
@@ -79,7 +76,7 @@ module _ (N M : ℕ) where
   SaneTree (tree.arguments l) = SaneArguments l
   SaneTree (tree.items l) = SaneItems l
   SaneTree (tree.binders l) = SaneBinders l
-  SaneTree (an-end n) = Numbered n
+  SaneTree (an-end n) = n .0 < N
 
   -- as it stands at a place of a sort
   abbrev SaneAs : Sort → Tree → Type 0
@@ -125,7 +122,7 @@ module _ (N M : ℕ) where
 
   -- ---- a planted node
 
-  planted-sane : (t : ℕ → Tree) (n : NodeNo) (m : Node) → Numbered n → All (λ p. SaneAs (p .0) (t (p .1))) (references m) → All (λ x. x < M) (names-in m)
+  planted-sane : (t : ℕ → Tree) (n : NodeNo) (m : Node) → n .0 < N → All (λ p. SaneAs (p .0) (t (p .1))) (references m) → All (λ x. x < M) (names-in m)
       → SaneTree (planted t n m)
   unfolding planted
   planted-sane t n (node.And l r) h a e = (h, a .0, a .1 .0)
