@@ -15,3 +15,4 @@ pub mod Lengths
 pub mod Sane
 pub mod SanePlaces
 pub mod Fitting
+pub mod Seed
