@@ -81,11 +81,11 @@ spot-pos (searched-items l) = items-pos l
 pub extent-pos : (p : Place) → 0 < extent p
 extent-pos p = spot-pos (p .spot)
 
-all-pick : (C : Place → Type 0) (b : Bool) (l : List Place) → All C l → All C (pick b [] l)
+pub all-pick : {A : Type 0} (C : A → Type 0) (b : Bool) (l : List A) → All C l → All C (pick b [] l)
 all-pick C true l a = tt
 all-pick C false l a = a
 
-abbrev at : Spot → Set → Bool → Place
+abbrev pub at : Spot → Set → Bool → Place
 at s names asked = record { spot = s; names = names; asked = asked }
 
 scope-shrinks-at : (s : Spot) (n : Set) (a : Bool) → All (λ q. extent q < spot-size s) (scope-below (at s n a))

@@ -11,3 +11,8 @@ pub mod Fields
 pub mod Weights
 pub mod Forests
 pub mod WellFormed
+pub mod Lengths
+pub mod Sane
+pub mod SanePlaces
+pub mod Fitting
+pub mod Seed

@@ -21,7 +21,7 @@ use Rattle.paper.specs.FreeAndRestricted.{free, term-free, arguments-fre
 abbrev pub Within : Set → Set → Type 0
 Within a b = (k : ℕ) → a k ≡ true → b k ≡ true
 
-none-within : (a : Set) → Within none a
+pub none-within : (a : Set) → Within none a
 unfolding none
 none-within a k e = absurd (true≢false (sym e))
 
@@ -37,7 +37,7 @@ right-within a b c f k e = go (b k) (f k e)
     go true g = refl
     go false g = g
 
-both-within : (a b c : Set) → Within a c → Within b c → Within (a ∪ b) c
+pub both-within : (a b c : Set) → Within a c → Within b c → Within (a ∪ b) c
 unfolding _∪_
 both-within a b c f g k e = go (a k) refl e
   where
@@ -51,6 +51,14 @@ less-within a b c f k e = go (a k) refl e
   where
     go : (x : Bool) → a k ≡ x → (x && not (c k)) ≡ true → (b k && not (c k)) ≡ true
     go true d e = ap (λ (x : Bool). x && not (c k)) (f k d) ∙ e
+    go false d e = absurd (true≢false (sym e))
+
+pub minus-within : (a b c : Set) → Within a b → Within (a ∖ c) b
+unfolding _∖_
+minus-within a b c f k e = go (a k) refl e
+  where
+    go : (x : Bool) → a k ≡ x → (x && not (c k)) ≡ true → b k ≡ true
+    go true d e = f k d
     go false d e = absurd (true≢false (sym e))
 
 -- ---- terms
