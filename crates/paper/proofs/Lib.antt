@@ -11,3 +11,5 @@ pub mod Fields
 pub mod Weights
 pub mod Forests
 pub mod WellFormed
+pub mod CellNames
+pub mod Once

@@ -110,7 +110,7 @@ module _ (below : Place → List Place) (broken : Place → List Broken) where
             (forest-same (find-within n) (λ q. find-within (extent q) q) 0 (below p)
             (all-map (λ q (l : extent q < extent p). enough n (extent q) q (omega arith) (omega arith)) (below p) (shrinks p)))
 
-    within : (C : Place → Type 0) → ((q : Place) → All C (below q) → C q) → (d : ℕ) (p : Place) → extent p ≤ d → C p
+    pub within : (C : Place → Type 0) → ((q : Place) → All C (below q) → C q) → (d : ℕ) (p : Place) → extent p ≤ d → C p
     within C f zero p h = absurd (let z = pos p in omega arith)
     within C f (suc d) p h = f p (all-map (λ q (l : extent q < extent p). within C f d q (omega arith)) (below p) (shrinks p))
 
