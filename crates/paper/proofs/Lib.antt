@@ -13,3 +13,4 @@ pub mod Forests
 pub mod WellFormed
 pub mod CellNames
 pub mod Once
+pub mod Answers
