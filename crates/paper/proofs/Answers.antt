@@ -10,7 +10,7 @@ use native.Mathlib.Omega.{arith}
 use lib.Dec.{leb}
 use lib.ListN.{length, take, drop, length-append, length-drop, take-append-drop}
 use store.Seg.{take-pre, drop-pre}
-use borrow.Author.Tests.{leb-true, leb-false}
+use borrow.Author.Tests.{leb-true, leb-false, le-leb}
 use Rattle.paper.specs.declared.Finding.{Finding}
 use Rattle.paper.specs.declared.Verdict.{Verdict}
 use Rattle.paper.specs.declared.Answer.{Answer}
@@ -249,6 +249,12 @@ list-too-long bytes before needed e = subst (Says (read bytes) before (list-buff
 pub list-turned-back : (bytes before : List ℕ) (number offset : ℕ) → list bytes (length before) ≡ listing.Refused number offset
     → TurnedBack (read bytes) before (list-buffer bytes before) number offset
 list-turned-back bytes before number offset e = subst (Says (read bytes) before (list-buffer bytes before)) e (list-says bytes before)
+
+-- and a list that there is room for is written
+pub list-writes : (bytes before : List ℕ) (c : Contents) → read bytes ≡ accepted c → length (packed c) ≤ length before
+    → (list bytes (length before) ≡ listing.Listed (length (packed c))) × (list-buffer bytes before ≡ packed c ++ drop (length (packed c)) before)
+unfolding list list-buffer listing-of buffer-of
+list-writes bytes before c e h = let d = le-leb (length (packed c)) (length before) h in (rw (e, d), rw (e, d))
 
 -- the buffer keeps its length
 pub buffer-long : (bytes before : List ℕ) → length (list-buffer bytes before) ≡ length before

@@ -14,3 +14,4 @@ pub mod WellFormed
 pub mod CellNames
 pub mod Once
 pub mod Answers
+pub mod ShutOut
