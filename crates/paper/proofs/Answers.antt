@@ -30,6 +30,7 @@ use Rattle.paper.proofs.Ascending.{exactly-one}
 use Rattle.paper.proofs.Exact.{scoping-exact, closedness-exact, demands-exact}
 use Rattle.paper.proofs.WellFormed.{well-formed}
 use Rattle.paper.proofs.Once.{Distinct, once-each}
+use Rattle.paper.proofs.Parts.{ruled, list-scoping, list-closedness, list-demands}
 
 -- ---- a check and its part of the list
 
@@ -78,6 +79,16 @@ closedness-tells bytes = answered-tells closedness-part (read bytes)
 pub demands-tells : (bytes : List ℕ) (c : Contents) → read bytes ≡ accepted c → Tells (demands-part c) (demands bytes)
 unfolding demands
 demands-tells bytes = answered-tells demands-part (read bytes)
+
+-- with no seed a check speaks of the list itself: its part is those of the list's entries that have the part's rules
+pub list-tells : (bytes : List ℕ) (c : Contents) → read bytes ≡ accepted c
+    → Tells (ruled 20 27 (the-list c)) (scoping bytes none) × Tells (ruled 28 28 (the-list c)) (closedness bytes)
+    × Tells (ruled 30 32 (the-list c)) (demands bytes)
+list-tells bytes c e = (
+  subst (λ (l : List Finding). Tells l (scoping bytes none)) (sym (list-scoping c)) (scoping-tells bytes none c e),
+  subst (λ (l : List Finding). Tells l (closedness bytes)) (sym (list-closedness c)) (closedness-tells bytes c e),
+  subst (λ (l : List Finding). Tells l (demands bytes)) (sym (list-demands c)) (demands-tells bytes c e),
+)
 
 -- ---- the list and the three checks
 

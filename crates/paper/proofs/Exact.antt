@@ -30,7 +30,7 @@ use Rattle.paper.specs.Demands.{
 }
 use Rattle.paper.proofs.Ascending.{asc-map}
 use Rattle.paper.proofs.Entries.{entries, entries-get, entries-put, entries-asc, entries-findings, ByRule, rule-of}
-use Rattle.paper.proofs.Walks.{All, extent, found-exactly}
+use Rattle.paper.proofs.Walks.{All, all-unless, extent, found-exactly}
 
 -- ---- every place is of some size, and what lies below it is smaller
 
@@ -82,8 +82,7 @@ pub extent-pos : (p : Place) → 0 < extent p
 extent-pos p = spot-pos (p .spot)
 
 all-pick : (C : Place → Type 0) (b : Bool) (l : List Place) → All C l → All C (pick b [] l)
-all-pick C true l a = tt
-all-pick C false l a = a
+all-pick C b l a = all-unless C b l a
 
 abbrev at : Spot → Set → Bool → Place
 at s names asked = record { spot = s; names = names; asked = asked }

@@ -13,5 +13,6 @@ pub mod Forests
 pub mod WellFormed
 pub mod CellNames
 pub mod Once
+pub mod Parts
 pub mod Answers
 pub mod ShutOut
