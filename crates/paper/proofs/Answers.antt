@@ -64,7 +64,7 @@ first-tells (g ∷ entries) =
     head : (f : Finding) (rest : List Finding) → g ∷ entries ≡ f ∷ rest → g ≡ f
     head f rest e = cc
 
-answered-tells : (part : Contents → List Finding) (o : Outcome) (c : Contents) → o ≡ accepted c → Tells (part c) (answered part o)
+pub answered-tells : (part : Contents → List Finding) (o : Outcome) (c : Contents) → o ≡ accepted c → Tells (part c) (answered part o)
 unfolding answered
 answered-tells part o c e = subst (λ (z : Outcome). Tells (part c) (answered part z)) (sym e) (first-tells (part c))
 
@@ -166,7 +166,7 @@ list-once bytes c e = once-each c (well-formed bytes c e)
 abbrev pub Decides : {A : Type 0} → (A → Type 0) → Type 0
 Decides {A} Allowed = (a b : A) → Allowed a → Allowed b → a ≡ b
 
-decided : {A : Type 0} (said : A) → Decides (λ a. a ≡ said)
+pub decided : {A : Type 0} (said : A) → Decides (λ a. a ≡ said)
 decided said a b p q = p ∙ sym q
 
 pub verdict-decided : (bytes : List ℕ) → Decides (λ (r : Verdict). r ≡ verdict (read bytes))
