@@ -30,7 +30,7 @@ use Rattle.paper.specs.Demands.{
 }
 use Rattle.paper.proofs.Ascending.{asc-map}
 use Rattle.paper.proofs.Entries.{entries, entries-get, entries-put, entries-asc, entries-findings, ByRule, rule-of}
-use Rattle.paper.proofs.Walks.{All, extent, found-exactly}
+use Rattle.paper.proofs.Walks.{All, all-unless, extent, found-exactly}
 
 -- ---- every place is of some size, and what lies below it is smaller
 
@@ -81,10 +81,6 @@ spot-pos (searched-items l) = items-pos l
 pub extent-pos : (p : Place) → 0 < extent p
 extent-pos p = spot-pos (p .spot)
 
-pub all-pick : {A : Type 0} (C : A → Type 0) (b : Bool) (l : List A) → All C l → All C (pick b [] l)
-all-pick C true l a = tt
-all-pick C false l a = a
-
 abbrev pub at : Spot → Set → Bool → Place
 at s names asked = record { spot = s; names = names; asked = asked }
 
@@ -108,8 +104,8 @@ scope-shrinks-at (operand (Sigil n k i)) s a = tt
 scope-shrinks-at (operand (Array n l)) s a = omega arith
 scope-shrinks-at (operand (Arith n o l r)) s a = omega arith
 scope-shrinks-at (operand (Sum n v l b)) s a =
-    all-pick (λ q. extent q < term-size (Sum n v l b)) (is-sigil v || binder-sigil l) _ (omega arith)
-scope-shrinks-at (operand (Count n l b)) s a = all-pick (λ q. extent q < term-size (Count n l b)) (false || binder-sigil l) _ (omega arith)
+    all-unless (λ q. extent q < term-size (Sum n v l b)) (is-sigil v || binder-sigil l) _ (omega arith)
+scope-shrinks-at (operand (Count n l b)) s a = all-unless (λ q. extent q < term-size (Count n l b)) (false || binder-sigil l) _ (omega arith)
 scope-shrinks-at (operand (AggregateCall n y)) s a = tt
 scope-shrinks-at (searched (Var n x)) s a = tt
 scope-shrinks-at (searched (Wildcard n)) s a = tt

@@ -21,8 +21,8 @@ use Rattle.paper.specs.Places.{condition, Place, asked-at, Cell, Broken,
 use Rattle.paper.specs.Scoping.{reserved, scope-below, scope-broken, scoping-part}
 use Rattle.paper.specs.Demands.{closedness-broken, closedness-part, demand-below, demand-broken, demands-part}
 use Rattle.paper.specs.TheList.{the-list, name-or-255, pack, about, unpack}
-use Rattle.paper.proofs.Walks.{All, all-map, extent, within, found-at}
-use Rattle.paper.proofs.Exact.{extent-pos, all-pick, scope-shrinks, demand-shrinks}
+use Rattle.paper.proofs.Walks.{All, all-map, all-unless, extent, within, found-at}
+use Rattle.paper.proofs.Exact.{extent-pos, scope-shrinks, demand-shrinks}
 use Rattle.paper.proofs.WellFormed.{WellFormed, all-both}
 use Rattle.paper.proofs.Sane.{sane-any}
 use Rattle.paper.proofs.SanePlaces.{SanePlace, SaneCell, SaneBroken, scope-broken-sane, scope-below-sane, demand-broken-sane, demand-below-sane}
@@ -136,7 +136,7 @@ scoping-fits c f seed =
 pub demands-fits : (c : Contents) → WellFormed c → All Fits (demands-part c)
 unfolding demands-part
 demands-fits c f =
-    all-pick Fits (holds-sigil (root c)) _
+    all-unless Fits (holds-sigil (root c)) _
     (found-all demand-below demand-broken demand-shrinks (SanePlace 512 128) (demand-below-sane 512 128) Fits
     (λ p h. all-fit (demand-broken p) (demand-broken-sane 512 128 p h)) (asked-at (condition (root c)) none) (sane-any c f))
 

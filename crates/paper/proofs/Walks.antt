@@ -4,12 +4,14 @@
 -- A walk has only to show that every place below is smaller, and that the rules broken at a place are named in their order. Assumes nothing.
 use mathlib.Core.Path.{_≡_, refl, sym, ap, ap₂, _∙_, subst}
 use mathlib.Core.Logic.{_⊎_, inl, inr, ⊎-elim}
+use mathlib.Core.Bool.{Bool, true, false}
 use mathlib.Core.List.{List, [], _∷_, _++_, map, map-append, map-map, List·Memᴰ, List·Memᴰ·not-nil, List·Memᴰ·append-cases, Memᴰ·append-left, Memᴰ·append-right, Memᴰ·cast, Memᴰ·map, Memᴰ·of-map}
 use Prim.Native.Nat.{ℕ, zero, suc, _+_, _<_, _≤_}
 use native.Mathlib.Omega.{arith}
 use native.Mathlib.Nat.{add-zero}
 use lib.ListN.{getD}
 use Rattle.paper.specs.declared.Finding.{Finding}
+use Rattle.paper.specs.Record.{pick}
 use Rattle.paper.specs.Places.{Place, nowhere, place, Entry, Broken, Unmet, Before, Earlier, Located, Precedes, Ascending, Exactly, gather, findings, spot-size, found-within, found}
 use Rattle.paper.proofs.Ascending.{asc-append, asc-map}
 use Rattle.paper.proofs.Entries.{entries, entries-get, entries-put, gather-get, gather-put, ByRule, gather-asc, gather-findings}
@@ -43,6 +45,10 @@ forest-same f g i (q ∷ qs) a = ap₂ {C = List Located} _++_ (ap (map (push i)
 pub all-map : {A : Type 0} {C D : A → Type 0} → ((a : A) → C a → D a) → (l : List A) → All C l → All D l
 all-map f [] p = tt
 all-map f (a ∷ l) p = (f a (p .0), all-map f l (p .1))
+
+pub all-unless : {A : Type 0} (C : A → Type 0) (b : Bool) (l : List A) → All C l → All C (pick b [] l)
+all-unless C true l a = tt
+all-unless C false l a = a
 
 push-up : (k : ℕ) (a b : Located) → Precedes a b → Precedes (push k a) (push k b)
 push-up k a b h = ⊎-elim (λ p. inl (inr (refl, p))) (λ p. inr (ap (λ (z : List ℕ). k ∷ z) (p .0), p .1)) h
