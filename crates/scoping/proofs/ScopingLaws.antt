@@ -1,0 +1,241 @@
+-- What `check_condition` and `check_operand` find at a node: by `found-at`, what is broken there and then what is found below. Assumes nothing.
+use mathlib.Core.Path.{_≡_, refl, sym, ap, ap₂, _∙_, subst}
+use mathlib.Core.Bool.{true, false, true≢false}
+use mathlib.Core.List.{List, [], _∷_, _++_, append-nil, append-assoc}
+use Prim.Native.Nat.{ℕ}
+use types.Run.{OneOf, miss}
+use denote.Enum.Declared.{tagOf}
+use Rattle.paper.proofs.Node.{the-type}
+use Rattle.paper.specs.declared.NodeNo.{NodeNo}
+use Rattle.paper.specs.declared.Finding.{Finding}
+use Rattle.paper.specs.declared.Slot.{Slot}
+use Rattle.paper.specs.declared.Node.{Node}
+use Rattle.paper.specs.declared.Node.the-variants as node
+use Rattle.paper.specs.Record.{pick, node-no}
+use Rattle.paper.specs.Sets.{Set, none, _∪_, _∩_, _∖_}
+use Rattle.paper.specs.Tree.{Condition, Term, Arguments, Items, Binders, Tree, as-condition, as-term, as-items, planted}
+use Rattle.paper.specs.Tree.{Condition as cond}
+use Rattle.paper.specs.Tree.Term.{Var, Wildcard, Value, Sigil, Array, Arith, Sum, Count, AggregateCall}
+use Rattle.paper.specs.Tree.Arguments.{no-argument, argument}
+use Rattle.paper.specs.Tree.Items.{no-item, item}
+use Rattle.paper.specs.FreeAndRestricted.{named, binder-names, restricted, holds-sigil}
+use Rattle.paper.specs.Places.{Spot, condition, operand, searched, searched-arguments, searched-items, Place, asked-at, Broken, itself, for-names, gather, findings, found}
+use Rattle.paper.specs.Scoping.{scope-below, scope-broken}
+use Rattle.paper.proofs.Walks.{found-at}
+use Rattle.paper.proofs.Exact.{extent-pos, scope-shrinks}
+use Rattle.trees.specs.Trees.{tree-of, condition-of, term-of, arguments-of, binders-of}
+use Rattle.trees.proofs.Arms.{Arm}
+use Rattle.trees.proofs.Sorts.{at-arguments, at-items}
+use Rattle.trees.proofs.Shapes.{Aggregate, sum, count}
+use Rattle.trees.proofs.ByKind.{condition-cases, term-cases}
+use Rattle.trees.proofs.Joins.{JoinsTwo, PassesOne}
+use Rattle.places.specs.Nested.{nested, nested-arguments, nested-items, nested-in}
+use Rattle.places.specs.Aggregates.{skips, five, five-of}
+use Rattle.scoping.specs.Scoped.{scoped}
+
+-- one run, or two, and then what lies below
+then-one : (a b : List Finding) → a ++ (b ++ []) ≡ a ++ b
+then-one a b = ap (λ (z : List Finding). a ++ z) (append-nil b)
+
+then-two : (a b c : List Finding) → (a ++ (b ++ [])) ++ (c ++ []) ≡ a ++ (b ++ c)
+then-two a b c = ap₂ {C = List Finding} _++_ (then-one a b) (append-nil c) ∙ append-assoc a b c
+
+-- Call, SigilRef, and no condition
+abbrev unscoped-kinds : List ℕ
+unscoped-kinds = 11 ∷ 12 ∷ 13 ∷ 14 ∷ 15 ∷ 16 ∷ 17 ∷ 18 ∷ 19 ∷ 20 ∷ 21 ∷ 22 ∷ 23 ∷ 24 ∷ 25 ∷ 26 ∷ 27 ∷ 28 ∷ []
+
+-- what is neither arithmetic nor an array nor an aggregate with a body
+abbrev unentered-kinds : List ℕ
+unentered-kinds = 0 ∷ 1 ∷ 2 ∷ 3 ∷ 4 ∷ 5 ∷ 6 ∷ 7 ∷ 8 ∷ 9 ∷ 10 ∷ 11 ∷ 12 ∷ 13 ∷ 14 ∷ 15 ∷ 16 ∷ 17 ∷ 18 ∷ 19 ∷ 24 ∷ 25 ∷ 26 ∷ 27 ∷ 28 ∷ []
+
+once : (a : List Finding) → (a ++ []) ++ [] ≡ a
+once a = append-nil (a ++ []) ∙ append-nil a
+
+no-argument-nested : (n : NodeNo) → nested-arguments (no-argument n) ≡ []
+unfolding nested
+no-argument-nested n = refl
+
+no-item-nested : (n : NodeNo) → nested-items (no-item n) ≡ []
+unfolding nested
+no-item-nested n = refl
+
+module _ (words scope : Set) where
+  abbrev from : Spot → List Finding
+  from s = scoped words s scope
+
+  abbrev below : Spot → List Finding
+  below s = gather (found scope-below (scope-broken words)) (scope-below (asked-at s scope))
+
+  at : (s : Spot) → from s ≡ gather findings (scope-broken words (asked-at s scope)) ++ below s
+  unfolding scoped
+  at s = found-at scope-below (scope-broken words) extent-pos scope-shrinks (asked-at s scope)
+
+  pub scoped-two : JoinsTwo (λ c. from (condition c)) _++_
+  unfolding scope-below scope-broken gather scoped
+  scoped-two =
+      record {
+        and = λ n l r. at (condition (cond.And n l r)) ∙ then-one (from (condition l)) (from (condition r));
+        or = λ n l r. at (condition (cond.Or n l r)) ∙ then-one (from (condition l)) (from (condition r));
+        since = λ n l r w. at (condition (cond.Since n l r w)) ∙ then-one (from (condition l)) (from (condition r));
+      }
+
+  pub scoped-one : PassesOne (λ c. from (condition c))
+  unfolding scope-below scope-broken gather scoped
+  scoped-one =
+      record {
+        not = λ n b. at (condition (cond.Not n b)) ∙ append-nil (from (condition b));
+        past = λ n k b w. at (condition (cond.Past n k b w)) ∙ append-nil (from (condition b));
+      }
+
+  pub scoped-refine : (n : NodeNo) (b : Condition) (l : Arguments) → from (condition (cond.Refine n b l)) ≡ from (condition b)
+  unfolding scope-below scope-broken gather scoped
+  scoped-refine n b l = at (condition (cond.Refine n b l)) ∙ append-nil (from (condition b))
+
+  -- ---- a search finds the same whatever is in scope
+
+  mutual
+    unfolding scope-below scope-broken gather scoped nested
+
+    term-searched : (t : Term) → from (searched t) ≡ nested t
+    term-searched (Var n x) = at (searched (Var n x))
+    term-searched (Wildcard n) = at (searched (Wildcard n))
+    term-searched (Value n k y) = at (searched (Value n k y))
+    term-searched (Sigil n k i) = at (searched (Sigil n k i))
+    term-searched (Array n l) = at (searched (Array n l)) ∙ append-nil (from (searched-items l)) ∙ items-searched l
+    term-searched (Arith n o l r) = at (searched (Arith n o l r)) ∙ once (findings (itself 21 n))
+    term-searched (Sum n s l b) = at (searched (Sum n s l b)) ∙ once (findings (itself 20 n))
+    term-searched (Count n l b) = at (searched (Count n l b)) ∙ once (findings (itself 20 n))
+    term-searched (AggregateCall n y) = at (searched (AggregateCall n y)) ∙ once (findings (itself 20 n))
+
+    arguments-searched : (l : Arguments) → from (searched-arguments l) ≡ nested-arguments l
+    arguments-searched (no-argument n) = at (searched-arguments (no-argument n))
+    arguments-searched (argument n f t l) =
+        at (searched-arguments (argument n f t l)) ∙ then-one (from (searched t)) (from (searched-arguments l))
+        ∙ ap₂ {C = List Finding} _++_ (term-searched t) (arguments-searched l)
+
+    items-searched : (l : Items) → from (searched-items l) ≡ nested-items l
+    items-searched (no-item n) = at (searched-items (no-item n))
+    items-searched (item n t l) =
+        at (searched-items (item n t l)) ∙ then-one (from (searched t)) (from (searched-items l))
+        ∙ ap₂ {C = List Finding} _++_ (term-searched t) (items-searched l)
+
+  -- ---- conditions
+
+  module _ {bytes starts : List ℕ} {i : ℕ} where
+    pub in-condition : {m : Node} → Arm bytes starts i m → from (condition (condition-of bytes i)) ≡ from (condition (as-condition (planted (tree-of bytes) (node-no i) m)))
+    in-condition a = ap (λ (t : Tree). from (condition (as-condition t))) (a .tree)
+
+    pub scoped-comparison : {o : ℕ} {l r : NodeNo} → Arm bytes starts i (node.Comparison o l r)
+        → from (condition (condition-of bytes i)) ≡ from (operand (term-of bytes (l .0))) ++ from (operand (term-of bytes (r .0)))
+    unfolding planted as-condition scope-below scope-broken gather scoped
+    scoped-comparison {l = l} {r = r} a = in-condition a ∙ at _ ∙ then-one (from (operand (term-of bytes (l .0)))) (from (operand (term-of bytes (r .0))))
+
+    pub scoped-predicate : {q : ℕ} {l : NodeNo} → Arm bytes starts i (node.Predicate q l) → from (condition (condition-of bytes i)) ≡ nested-in (tree-of bytes (l .0))
+    unfolding planted as-condition scope-below scope-broken gather scoped
+    scoped-predicate {l = l} a =
+        in-condition a ∙ at _ ∙ append-nil (from (searched-arguments (arguments-of bytes (l .0)))) ∙ arguments-searched (arguments-of bytes (l .0))
+        ∙ sym (at-arguments nested nested-arguments nested-items [] no-argument-nested _ (a .children .0 .fits))
+
+    pub scoped-tp : {s : Slot} → Arm bytes starts i (node.Tp s) → from (condition (condition-of bytes i)) ≡ findings (for-names 22 (node-no i) (named s ∩ words))
+    unfolding planted as-condition scope-below scope-broken gather scoped
+    scoped-tp {s = s} a = in-condition a ∙ at _ ∙ once (findings (for-names 22 (node-no i) (named s ∩ words)))
+
+    pub scoped-exists : {inner : Set} {s : Slot} {y : ℕ} {b : NodeNo} → inner ≡ scope ∪ named s → Arm bytes starts i (node.Exists s y b)
+        → from (condition (condition-of bytes i))
+        ≡ findings (for-names 22 (node-no i) (named s ∩ words))
+        ++ (findings (for-names 23 (node-no i) (pick (holds-sigil (condition-of bytes (b .0))) none (named s ∖ restricted (condition-of bytes (b .0)))))
+        ++ scoped words (condition (condition-of bytes (b .0))) inner)
+    unfolding planted as-condition scope-below scope-broken gather scoped
+    scoped-exists {s = s} {b = b} e a = in-condition a ∙ at _ ∙ then-two reserved loose _ ∙ ap (λ (z : Set). reserved ++ (loose ++ scoped words (condition (condition-of bytes (b .0))) z)) (sym e)
+      where
+        reserved : List Finding
+        reserved = findings (for-names 22 (node-no i) (named s ∩ words))
+
+        loose : List Finding
+        loose = findings (for-names 23 (node-no i) (pick (holds-sigil (condition-of bytes (b .0))) none (named s ∖ restricted (condition-of bytes (b .0)))))
+
+    -- ---- operands
+
+    pub in-operand : {m : Node} → Arm bytes starts i m → from (operand (term-of bytes i)) ≡ from (operand (as-term (planted (tree-of bytes) (node-no i) m)))
+    in-operand a = ap (λ (t : Tree). from (operand (as-term t))) (a .tree)
+
+    pub scoped-arith : {o : ℕ} {l r : NodeNo} → Arm bytes starts i (node.Arith o l r)
+        → from (operand (term-of bytes i)) ≡ from (operand (term-of bytes (l .0))) ++ from (operand (term-of bytes (r .0)))
+    unfolding planted as-term scope-below scope-broken gather scoped
+    scoped-arith {l = l} {r = r} a = in-operand a ∙ at _ ∙ then-one (from (operand (term-of bytes (l .0)))) (from (operand (term-of bytes (r .0))))
+
+    pub scoped-array : {l : NodeNo} → Arm bytes starts i (node.Array l) → from (operand (term-of bytes i)) ≡ nested-in (tree-of bytes (l .0))
+    unfolding planted as-term scope-below scope-broken gather scoped
+    scoped-array {l = l} a =
+        in-operand a ∙ at _ ∙ append-nil _ ∙ items-searched (as-items (tree-of bytes (l .0)))
+        ∙ sym (at-items nested nested-arguments nested-items [] no-item-nested _ (a .children .0 .fits))
+
+  -- ---- aggregates
+
+  pub scoped-skipped : (t : Term) → skips t ≡ true → from (operand t) ≡ []
+  unfolding scope-below scope-broken gather scoped skips
+  scoped-skipped (Var n x) e = absurd (true≢false (sym e))
+  scoped-skipped (Wildcard n) e = absurd (true≢false (sym e))
+  scoped-skipped (Value n k y) e = absurd (true≢false (sym e))
+  scoped-skipped (Sigil n k i) e = absurd (true≢false (sym e))
+  scoped-skipped (Array n l) e = absurd (true≢false (sym e))
+  scoped-skipped (Arith n o l r) e = absurd (true≢false (sym e))
+  scoped-skipped (Sum n s l b) e = at (operand (Sum n s l b)) ∙ rw e
+  scoped-skipped (Count n l b) e = at (operand (Count n l b)) ∙ rw e
+  scoped-skipped (AggregateCall n y) e = absurd (true≢false (sym e))
+
+  entered-sum : (n : NodeNo) (s : Slot) (l : Binders) (b : Condition) → skips (Sum n s l b) ≡ false
+      → from (operand (Sum n s l b)) ≡ gather findings (five-of words (Sum n s l b) scope) ++ scoped words (condition b) (scope ∪ binder-names l)
+  unfolding scope-below scope-broken gather scoped skips five-of five
+  entered-sum n s l b e = at (operand (Sum n s l b)) ∙ rw e (then-one (gather findings (five-of words (Sum n s l b) scope)) (scoped words (condition b) (scope ∪ binder-names l)))
+
+  entered-count : (n : NodeNo) (l : Binders) (b : Condition) → skips (Count n l b) ≡ false
+      → from (operand (Count n l b)) ≡ gather findings (five-of words (Count n l b) scope) ++ scoped words (condition b) (scope ∪ binder-names l)
+  unfolding scope-below scope-broken gather scoped skips five-of five
+  entered-count n l b e = at (operand (Count n l b)) ∙ rw e (then-one (gather findings (five-of words (Count n l b) scope)) (scoped words (condition b) (scope ∪ binder-names l)))
+
+  abbrev entered : Term → Condition → Set → Type 0
+  entered t b inner = skips t ≡ false → from (operand t) ≡ gather findings (five-of words t scope) ++ scoped words (condition b) inner
+
+  module _ {bytes starts : List ℕ} {i : ℕ} where
+    pub scoped-aggregate : {inner : Set} {l b : NodeNo} {m : Node} → Aggregate l b m → inner ≡ scope ∪ binder-names (binders-of bytes (l .0)) → Arm bytes starts i m
+        → entered (term-of bytes i) (condition-of bytes (b .0)) inner
+    unfolding planted as-term
+    scoped-aggregate {l = l} {b = b} sum e a =
+        subst (entered (term-of bytes i) (condition-of bytes (b .0))) (sym e)
+        (subst (λ (t : Tree). entered (as-term t) (condition-of bytes (b .0)) (scope ∪ binder-names (binders-of bytes (l .0)))) (sym (a .tree)) (entered-sum _ _ _ _))
+    scoped-aggregate {l = l} {b = b} count e a =
+        subst (entered (term-of bytes i) (condition-of bytes (b .0))) (sym e)
+        (subst (λ (t : Tree). entered (as-term t) (condition-of bytes (b .0)) (scope ∪ binder-names (binders-of bytes (l .0)))) (sym (a .tree)) (entered-count _ _ _))
+
+  -- ---- the other kinds
+
+  nowhere-scoped : (n : NodeNo) (k : ℕ) (m : NodeNo) → from (condition (cond.Predicate n k (no-argument m))) ≡ []
+  unfolding scope-below scope-broken gather scoped nested
+  nowhere-scoped n k m = at (condition (cond.Predicate n k (no-argument m))) ∙ append-nil (from (searched-arguments (no-argument m))) ∙ arguments-searched (no-argument m)
+
+  no-scoped : (t : ℕ → Tree) (n : NodeNo) (m : Node) → OneOf unscoped-kinds (tagOf the-type m) → from (condition (as-condition (planted t n m))) ≡ []
+  unfolding scope-below scope-broken gather scoped
+  no-scoped t n =
+      condition-cases t n (λ m z. OneOf unscoped-kinds (tagOf the-type m) → from (condition z) ≡ [])
+      (λ l r h. absurd (miss unscoped-kinds 0 tt h)) (λ l r h. absurd (miss unscoped-kinds 1 tt h)) (λ b h. absurd (miss unscoped-kinds 2 tt h))
+      (λ b w h. absurd (miss unscoped-kinds 3 tt h)) (λ b w h. absurd (miss unscoped-kinds 4 tt h)) (λ l r w h. absurd (miss unscoped-kinds 5 tt h))
+      (λ s y b h. absurd (miss unscoped-kinds 6 tt h)) (λ o l r h. absurd (miss unscoped-kinds 7 tt h)) (λ a l h. absurd (miss unscoped-kinds 8 tt h))
+      (λ b l h. absurd (miss unscoped-kinds 9 tt h)) (λ s h. absurd (miss unscoped-kinds 10 tt h)) (λ y h. at (condition (cond.Opaque n 0x1B y)))
+      (λ y h. at (condition (cond.Opaque n 0x1C y))) (λ m e h. nowhere-scoped _ _ _)
+
+  no-operand : (t : ℕ → Tree) (n : NodeNo) (m : Node) → OneOf unentered-kinds (tagOf the-type m) → from (operand (as-term (planted t n m))) ≡ []
+  unfolding scope-below scope-broken gather scoped
+  no-operand t n =
+      term-cases t n (λ m z. OneOf unentered-kinds (tagOf the-type m) → from (operand z) ≡ [])
+      (λ x h. at (operand (Var n x))) (λ h. at (operand (Wildcard n))) (λ y h. at (operand (Value n 0x22 y))) (λ y h. at (operand (Value n 0x23 y)))
+      (λ y h. at (operand (Value n 0x24 y))) (λ k h. at (operand (Sigil n 0x25 k))) (λ k h. at (operand (Sigil n 0x26 k)))
+      (λ l h. absurd (miss unentered-kinds 20 tt h)) (λ o l r h. absurd (miss unentered-kinds 21 tt h)) (λ s l b h. absurd (miss unentered-kinds 22 tt h))
+      (λ l b h. absurd (miss unentered-kinds 23 tt h)) (λ y h. at (operand (AggregateCall n y))) (λ m e h. at (operand (Value (node-no 0) 0 0)))
+
+  module _ {bytes starts : List ℕ} {i : ℕ} {m : Node} where
+    pub scoped-none : Arm bytes starts i m → OneOf unscoped-kinds (tagOf the-type m) → from (condition (condition-of bytes i)) ≡ []
+    scoped-none a h = in-condition a ∙ no-scoped _ _ _ h
+
+    pub operand-none : Arm bytes starts i m → OneOf unentered-kinds (tagOf the-type m) → from (operand (term-of bytes i)) ≡ []
+    operand-none a h = in-operand a ∙ no-operand _ _ _ h
