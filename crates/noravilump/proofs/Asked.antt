@@ -1,26 +1,37 @@
 -- Each question's answer, by the reader's verdict: the refusal, or what the definitions say of the root. Assumes nothing.
-use mathlib.Core.Path.{_≡_, sym, ap, _∙_}
-use mathlib.Core.List.{List}
+use mathlib.Core.Path.{_≡_, sym, ap, ap₂, _∙_}
+use mathlib.Core.List.{List, [], _∷_}
 use Prim.Native.Nat.{ℕ, _-_, _<_, _≤_}
+use lib.ListN.{getD}
 use native.Mathlib.Omega.{arith}
 use Rattle.paper.specs.declared.NodeNo.{NodeNo}
+use Rattle.paper.specs.declared.Finding.{Finding}
 use Rattle.paper.specs.declared.Verdict.the-variants.{Counts, Refused}
 use Rattle.paper.specs.declared.Answer.the-variants as answer
 use Rattle.paper.specs.declared.Arithmetic.the-variants as arith
 use Rattle.paper.specs.Record.{pick, node-no}
 use Rattle.paper.specs.TurnedAway as outcome
-use Rattle.paper.specs.TurnedAway.{read}
+use Rattle.paper.specs.TurnedAway.{Contents, read}
+use Rattle.paper.specs.Sets.{Set}
 use Rattle.paper.specs.Tree.{root-no, root}
 use Rattle.paper.specs.FreeAndRestricted.{free}
-use Rattle.paper.specs.Places.{for-names, findings}
+use Rattle.paper.specs.Places.{condition, for-names, findings}
+use Rattle.paper.specs.Scoping.{scoping-part}
 use Rattle.paper.specs.Demands.{closedness-broken, closedness-part, has-arith}
-use Rattle.paper.specs.Questions.{first, answered, closedness, arithmetic-of, arithmetic}
+use Rattle.paper.specs.Questions.{first, answered, scoping, closedness, arithmetic-of, arithmetic}
+use Rattle.paper.proofs.Lengths.{scoping-length}
+use Rattle.paper.proofs.Fitting.{scoping-fits}
+use Rattle.names.specs.Words.{mem}
 use Rattle.record.specs.declared.reader.Reading.{Reading}
 use Rattle.record.specs.Arena.{Read}
 use Rattle.record.specs.Stored.{contents, Has}
 use Rattle.record.proofs.StoredLaws.{read-stored}
 use Rattle.record.proofs.Verdicts.{refused-is, Told, counts-are}
 use Rattle.trees.specs.Trees.{condition-of}
+use Rattle.writes.specs.Written.{Room, Wrote, answer-of}
+use Rattle.writes.proofs.WriteLaws.{wrote-is, room-is}
+use Rattle.writes.proofs.FirstLaws.{first-told}
+use Rattle.scoping.specs.Scoped.{scoped}
 
 -- ---- a refusal
 
@@ -28,9 +39,17 @@ module _ (bytes : List ℕ) (r : Reading) (p : Read bytes r) {n o : ℕ} (e : r 
   refused : read bytes ≡ outcome.refused n o
   refused = refused-is bytes (sym (p .said) ∙ e)
 
+  answered-refused : (part : Contents → List Finding) → answered part (read bytes) ≡ answer.Refused n o
+  unfolding answered
+  answered-refused part = ap (answered part) refused
+
+  pub scoping-refused : (seed : Set) → scoping bytes seed ≡ answer.Refused n o
+  unfolding scoping
+  scoping-refused seed = answered-refused (λ c. scoping-part c seed)
+
   pub closedness-refused : closedness bytes ≡ answer.Refused n o
-  unfolding closedness answered
-  closedness-refused = ap (answered closedness-part) refused
+  unfolding closedness
+  closedness-refused = answered-refused closedness-part
 
   pub arithmetic-refused : arithmetic bytes ≡ arith.Refused n o
   unfolding arithmetic arithmetic-of
@@ -60,6 +79,22 @@ module _ (bytes : List ℕ) (r : Reading) (p : Read bytes r) {n k : ℕ} (e : r 
         let some = told .formed .some-node in
         let here : i .0 ≡ k - 1 = ap (λ (m : NodeNo). m .0) d in
         (read-stored bytes r p, omega arith)
+
+    -- what a walk from the root writes is the part
+    scoped-part : (seed : Set) → scoped (mem (r .arena .reserved)) (condition (condition-of bytes (i .0))) seed ≡ scoping-part (contents bytes) seed
+    unfolding scoping-part scoped root
+    scoped-part seed =
+        ap₂ (λ (words : Set) (m : NodeNo). scoped words (condition (condition-of bytes (m .0))) seed) (p .held (contents bytes) (told .outcome) .words) (sym (last-node i d))
+
+    pub scoping-room : (seed : Set) → Room (scoped (mem (r .arena .reserved)) (condition (condition-of bytes (i .0))) seed) 0
+    scoping-room seed = room-is (sym (scoped-part seed)) (let l = scoping-length (contents bytes) (told .formed) seed in record { left = omega arith })
+
+    pub scoping-told : (seed : Set) {x count : ℕ} {after : List ℕ} → Wrote (scoped (mem (r .arena .reserved)) (condition (condition-of bytes (i .0))) seed) 0 count (x ∷ []) after
+        → answer-of count (getD after 0 0) ≡ scoping bytes seed
+    unfolding scoping answered
+    scoping-told seed w =
+        first-told (scoping-part (contents bytes) seed) (scoping-fits (contents bytes) (told .formed) seed) (wrote-is (sym (scoped-part seed)) w)
+        ∙ sym (ap (answered (λ c. scoping-part c seed)) (told .outcome))
 
     pub closedness-told : closedness bytes ≡ first (findings (for-names 28 i (free (condition-of bytes (i .0)))))
     unfolding closedness answered closedness-part closedness-broken root

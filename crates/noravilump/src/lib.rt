@@ -1,15 +1,19 @@
 // The public questions. Any bytes may be asked about.
 use checks::arith::condition_has_arith;
 use checks::closed::check_leaf_closed;
+use names::Names;
 use paper::Answer;
 use paper::Arithmetic;
 use paper::NodeNo;
 use paper::Verdict;
 use record::reader::read;
+use scoping::check_condition;
+use writes::first;
 ghost use mathlib.Core.Path.{_≡_};
 ghost use Prim.Native.Nat.{_-_, _<_, _≤_};
 ghost use Rattle.paper.specs.Record.{node-no};
-ghost use Rattle.paper.specs.Questions.{closedness as closedness-answer, arithmetic as arithmetic-answer};
+ghost use Rattle.paper.specs.Questions.{scoping as scoping-answer, closedness as closedness-answer, arithmetic as arithmetic-answer};
+ghost use Rattle.names.specs.Words.{mem};
 ghost use Rattle.noravilump.specs.Passed.{answer-passed, arithmetic-passed};
 
 // The last node.
@@ -36,6 +40,21 @@ fn passed_arithmetic(v: Verdict) -> Arithmetic
         Verdict::Refused { number, offset } => Arithmetic::Refused { number, offset },
         _ => Arithmetic::No,
     }
+}
+
+// A refusal of the reader; the first entry of 20 to 27 where the seed's names are in scope; or accepted.
+pub fn scoping(bytes: &[u8], seed: Names) -> Answer
+    ensures { λ r. ⌜ r ≡ scoping-answer (now (bytes .entry)) (mem seed) ⌝ }
+{
+    let r = read(bytes);
+    let v = r.verdict;
+    let a = r.arena;
+    let Verdict::Counts { names: _, nodes } = v else {
+        return passed_answer(v);
+    };
+    let mut one = [0u32; 1];
+    let count = check_condition(bytes, &a.starts, root(nodes), seed, a.reserved, &mut one, 0);
+    first(count, one[0])
 }
 
 // A refusal of the reader; 28 with the root and its least free name; or accepted.

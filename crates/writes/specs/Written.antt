@@ -4,14 +4,17 @@ use Prim.Native.Nat.{ℕ, _+_, _<_, _^_}
 use mathlib.Core.Path.{_≡_}
 use mathlib.Core.Bool.{cond}
 use mathlib.Core.List.{List, [], _∷_, map}
+use lib.Dec.{eqb}
 use lib.ListN.{length}
 use lib.Seq.{sets}
 use Rattle.paper.specs.declared.NodeNo.{NodeNo}
 use Rattle.paper.specs.declared.Subject.the-variants.{Name}
 use Rattle.paper.specs.declared.Finding.{Finding}
+use Rattle.paper.specs.declared.Answer.{Answer}
+use Rattle.paper.specs.declared.Answer.the-variants.{Accepted, Unmet}
 use Rattle.paper.specs.Sets.{Set}
-use Rattle.paper.specs.Record.{name-no}
-use Rattle.paper.specs.TheList.{pack}
+use Rattle.paper.specs.Record.{pick, name-no}
+use Rattle.paper.specs.TheList.{pack, unpack}
 
 -- the count of so many entries more does not overflow
 pub record Room (fs : List Finding) (at : ℕ) : Type 0 where
@@ -30,3 +33,7 @@ entries-for rule n xs = map (made rule n) xs
 
 abbrev pub entry-for : ℕ → NodeNo → Set → ℕ → List Finding
 entry-for rule n s x = entries-for rule n (cond (s x) (x ∷ []) [])
+
+-- what a check answers where it has so many entries, and this is the first
+unfoldable pub answer-of : ℕ → ℕ → Answer
+answer-of count v = pick (eqb count 0) Accepted (Unmet (unpack v))

@@ -1,5 +1,6 @@
 // Entries into a lent buffer, as far as it has room.
 use names::Names;
+use paper::Answer;
 use paper::Finding;
 use paper::NameNo;
 use paper::NodeNo;
@@ -10,7 +11,7 @@ ghost use Prim.Native.Nat.{_<_};
 ghost use Rattle.paper.specs.TheList.{about as abouts, name-or-255, pack as packs, unpack as unpacks};
 ghost use Rattle.paper.specs.Places.{for-names, findings};
 ghost use Rattle.names.specs.Words.{mem};
-ghost use Rattle.writes.specs.Written.{Room, Wrote, entry-for};
+ghost use Rattle.writes.specs.Written.{Room, Wrote, entry-for, answer-of};
 
 fn name_or_255(s: Subject) -> u8
     ensures { λ r. ⌜ r ≡ name-or-255 s ⌝ }
@@ -94,4 +95,15 @@ pub fn emit(out: &mut [u32], at: usize, rule: u8, n: NodeNo, s: Names) -> usize
         x = x + 1;
     }
     p
+}
+
+// What a check answers, from the count of its entries and the first of them.
+pub fn first(count: usize, v: u32) -> Answer
+    ensures { λ r. ⌜ r ≡ answer-of count v ⌝ }
+{
+    if count == 0 {
+        return Answer::Accepted;
+    }
+    let f = unpack(v);
+    Answer::Unmet(f)
 }
