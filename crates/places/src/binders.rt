@@ -39,12 +39,14 @@ fn unsafe_name(bytes: &[u8], starts: &[u16; 512], slot: Slot, body: NodeNo) -> N
     requires { ⌜ Tabled slot × Has (now bytes) (now starts) (body .0) ⌝ }
     ensures { λ r. ⌜ mem r ≡ pick (holds-sigil (condition-of (now (bytes .entry)) (body .0))) none (named slot ∖ restricted (condition-of (now (bytes .entry)) (body .0))) ⌝ }
 {
-    if body_has_sigil(bytes, starts, body) {
-        return names::empty();
-    }
+    let none = names::empty();
     let own = slot_name(slot);
     let tied = collect_range_restricted(bytes, starts, body);
-    names::minus(own, tied)
+    let loose = names::minus(own, tied);
+    if body_has_sigil(bytes, starts, body) {
+        return none;
+    }
+    loose
 }
 
 // 23, if the slot's name is not restricted in the body.

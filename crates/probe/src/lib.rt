@@ -1,4 +1,5 @@
 // What oracle/ calls: the reader's verdict, a name's length and the answers so far as plain numbers. The C face comes with issue 6.
+use names::Names;
 use octets::long;
 use octets::wide;
 use paper::Answer;
@@ -10,7 +11,8 @@ ghost use mathlib.Core.Path.{_≡_};
 ghost use lib.ListN.{length};
 ghost use Rattle.paper.specs.TurnedAway.{read as read-bytes, verdict};
 ghost use Rattle.paper.specs.TheList.{name-or-255};
-ghost use Rattle.paper.specs.Questions.{name, answer-numbers, arithmetic-numbers, closedness, arithmetic};
+ghost use Rattle.paper.specs.Questions.{name, answer-numbers, arithmetic-numbers, scoping, closedness, arithmetic};
+ghost use Rattle.names.specs.Words.{mem};
 ghost use Rattle.probe.specs.Numbers.{probed, asked};
 
 // The refusal's number, or 0; how many names were read; and how many nodes, or the refusal's offset.
@@ -77,11 +79,10 @@ fn name_number(s: Subject) -> usize
     }
 }
 
-#[no_mangle]
-pub extern "C" fn probe_closedness(bytes: &[u8]) -> Asked
-    ensures { λ r. ⌜ r ≡ asked (answer-numbers (closedness (now (bytes .entry)))) ⌝ }
+fn answered(a: Answer) -> Asked
+    ensures { λ r. ⌜ r ≡ asked (answer-numbers a) ⌝ }
 {
-    match noravilump::closedness(bytes) {
+    match a {
         Answer::Accepted => told(0, 0, 255),
         Answer::Unmet(f) => {
             let subject = f.name;
@@ -89,6 +90,23 @@ pub extern "C" fn probe_closedness(bytes: &[u8]) -> Asked
         }
         Answer::Refused { number, offset } => told(number, offset, 255),
     }
+}
+
+#[no_mangle]
+pub extern "C" fn probe_scoping(bytes: &[u8], lo: u64, hi: u64) -> Asked
+    ensures { λ r. ⌜ r ≡ asked (answer-numbers (scoping (now (bytes .entry)) (mem (record { lo = lo; hi = hi })))) ⌝ }
+{
+    let seed = Names { lo: lo, hi: hi };
+    let a = noravilump::scoping(bytes, seed);
+    answered(a)
+}
+
+#[no_mangle]
+pub extern "C" fn probe_closedness(bytes: &[u8]) -> Asked
+    ensures { λ r. ⌜ r ≡ asked (answer-numbers (closedness (now (bytes .entry)))) ⌝ }
+{
+    let a = noravilump::closedness(bytes);
+    answered(a)
 }
 
 #[no_mangle]

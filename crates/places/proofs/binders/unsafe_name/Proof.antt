@@ -3,7 +3,7 @@ use mathlib.Core.Path.{_≡_, sym, ap₂, _∙_}
 use mathlib.Core.Bool.{Bool, true, false}
 use borrow.Author.Needs.{needs}
 use Rattle.paper.specs.Record.{pick}
-use Rattle.paper.specs.Sets.{Set, none, _∖_}
+use Rattle.paper.specs.Sets.{Set, _∖_}
 use Rattle.places.proofs.binders.unsafe_name.Statement.{statement}
 use Rattle.places.proofs.binders.unsafe_name.Tie as tie
 
@@ -17,10 +17,10 @@ pub unsafe-name-spec : {M : Type 1} → statement M
 unsafe-name-spec =
     tie.close
     (tie.spec
-    (λ c κs. c .before .pre .1)
     (λ c κs. search needs)
-    (λ c. c .empty .ensures ∙ sym (first-picked _ _ (sym (c .before .before .body-has-sigil .ensures) ∙ c .before .if1 .taken)))
-    (λ c κs. c .before .before .before .pre .0)
-    (λ c κs. c .before .before .before .before .pre .1)
+    (λ c κs. c .before .before .pre .0)
+    (λ c κs. c .before .before .before .pre .1)
     (λ c κs. search needs)
-    (λ c. c .minus .ensures ∙ ap₂ _∖_ (c .before .before .slot-name .ensures) (c .before .collect-range-restricted .ensures) ∙ sym (second-picked _ _ (sym (c .before .before .before .before .body-has-sigil .ensures) ∙ c .before .before .before .if1 .left))))
+    (λ c κs. c .before .before .before .before .before .pre .1)
+    (λ c. c .before .before .before .before .before .empty .ensures ∙ sym (first-picked _ _ (sym (c .before .body-has-sigil .ensures) ∙ c .if1 .taken)))
+    (λ c. c .before .before .minus .ensures ∙ ap₂ _∖_ (c .before .before .before .before .slot-name .ensures) (c .before .before .before .collect-range-restricted .ensures) ∙ sym (second-picked _ _ (sym (c .before .body-has-sigil .ensures) ∙ c .if1 .left))))
