@@ -1,2 +1,1 @@
 pub mod NestedLaws
-pub mod AggregateLaws

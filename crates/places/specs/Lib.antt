@@ -1,2 +1,1 @@
 pub mod Nested
-pub mod Aggregates

@@ -1,4 +1,3 @@
-// What scoping finds at one place: at a binder, at an aggregate, and in a term that is only searched.
-pub mod aggregates;
+// What scoping finds at one place that is no aggregate: at a binder, and in a term that is only searched.
 pub mod binders;
 pub mod nested;

@@ -30,7 +30,7 @@ use Rattle.trees.proofs.Shapes.{Aggregate, sum, count}
 use Rattle.trees.proofs.ByKind.{condition-cases, term-cases}
 use Rattle.trees.proofs.Joins.{JoinsTwo, PassesOne}
 use Rattle.places.specs.Nested.{nested, nested-arguments, nested-items, nested-in}
-use Rattle.places.specs.Aggregates.{skips, five, five-of}
+use Rattle.aggregates.specs.Aggregates.{skips, five, five-of}
 use Rattle.scoping.specs.Scoped.{scoped}
 
 -- one run, or two, and then what lies below

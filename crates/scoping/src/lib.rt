@@ -1,11 +1,11 @@
 // Scoping: 20 to 27.
+use aggregates::check_agg_expr;
+use aggregates::is_skipped;
 use free::binder_names;
 use free::slot_name;
 use names::Names;
 use paper::Node;
 use paper::NodeNo;
-use places::aggregates::check_agg_expr;
-use places::aggregates::is_skipped;
 use places::binders::check_exists_safe;
 use places::binders::reject_reserved_binder;
 use places::nested::reject_nested_agg;

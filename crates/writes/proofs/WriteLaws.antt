@@ -1,7 +1,7 @@
 -- Runs of entries follow each other in the lent buffer. Assumes nothing.
 use mathlib.Core.Path.{_≡_, refl, sym, ap, _∙_, subst}
 use mathlib.Core.List.{List, [], _∷_, _++_, map, map-append, append-nil}
-use Prim.Native.Nat.{ℕ, suc, _+_, _<_}
+use Prim.Native.Nat.{ℕ, suc, _+_, _≤_}
 use native.Mathlib.Nat.{add-zero, add-assoc}
 use native.Mathlib.Omega.{arith}
 use lib.ListN.{length, set, length-append}
@@ -45,5 +45,6 @@ room-is {at = at} e h = subst (λ (z : List Finding). Room z at) e h
 pub room-first : (fs gs : List Finding) {at : ℕ} → Room (fs ++ gs) at → Room fs at
 room-first fs gs h = let e = length-append fs gs in let l = h .left in record { left = omega arith }
 
-pub room-rest : (fs gs : List Finding) {at m : ℕ} {a b : List ℕ} → Wrote fs at m a b → Room (fs ++ gs) at → Room gs m
-room-rest fs gs w h = let e = length-append fs gs in let t = w .total in let l = h .left in record { left = omega arith }
+-- from wherever the rest may be written on, up to where it belongs
+pub room-rest : (fs gs : List Finding) {at m k : ℕ} {a b : List ℕ} → Wrote fs at m a b → k ≤ m → Room (fs ++ gs) at → Room gs k
+room-rest fs gs w h room = let e = length-append fs gs in let t = w .total in let l = room .left in record { left = omega arith }

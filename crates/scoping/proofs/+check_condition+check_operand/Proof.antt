@@ -3,6 +3,7 @@
 use mathlib.Core.Path.{_≡_, refl, sym, ap₂, _∙_}
 use mathlib.Core.Logic.{⊎-elim}
 use denote.Ref.{now}
+use native.Mathlib.Omega.{arith}
 use borrow.Author.Needs.{needs}
 use Rattle.paper.specs.declared.Node.{Node}
 use Rattle.paper.specs.declared.Node.the-variants as node
@@ -28,8 +29,8 @@ use Rattle.scoping.proofs.+check_condition+check_operand.Lts-check_oper
 use Rattle.free.proofs.binder_names.Reads as binder-names-reads
 use Rattle.free.proofs.slot_name.Reads as slot-name-reads
 use Rattle.names.proofs.union.Reads as union-reads
-use Rattle.places.proofs.aggregates.check_agg_expr.Reads as check-agg-expr-reads
-use Rattle.places.proofs.aggregates.is_skipped.Reads as is-skipped-reads
+use Rattle.aggregates.proofs.check_agg_expr.Reads as check-agg-expr-reads
+use Rattle.aggregates.proofs.is_skipped.Reads as is-skipped-reads
 use Rattle.places.proofs.binders.check_exists_safe.Reads as check-exists-safe-reads
 use Rattle.places.proofs.binders.reject_reserved_binder.Reads as reject-reserved-binder-reads
 use Rattle.places.proofs.nested.reject_nested_agg.Reads as reject-nested-agg-reads
@@ -107,20 +108,20 @@ pub +check-condition+check-operand-spec : {M : Type 1} → statement M
     (λ c. search needs)
     (λ c. search needs)
     (λ c κs. let a = condition-arm t (c .before .before .before .before) (c .before .before .node8 .given .1) in (slot-tabled (c .before .before .node8 .given .0 .0) (a .tabled), room-first _ _ (room-is (scoped-exists _ _ refl a) (c .before .before .before .before .before .before .before .pre .1 .1))))
-    (λ c κs. let a = condition-arm t (c .before .before .before .before .before .before .before .before) (c .before .before .before .before .before .before .node8 .given .1) in ((slot-tabled (c .before .before .before .before .before .before .node8 .given .0 .0) (a .tabled), a .children .0 .has), room-first _ _ (room-rest _ _ (c .before .before .before .reject-reserved-binder .ensures) (room-is (scoped-exists _ _ refl a) (c .before .before .before .before .before .before .before .before .before .before .before .pre .1 .1)))))
+    (λ c κs. let a = condition-arm t (c .before .before .before .before .before .before .before .before) (c .before .before .before .before .before .before .node8 .given .1) in ((slot-tabled (c .before .before .before .before .before .before .node8 .given .0 .0) (a .tabled), a .children .0 .has), room-first _ _ (room-rest _ _ (c .before .before .before .reject-reserved-binder .ensures) (omega (arith, c .before .before .before .reject-reserved-binder .ensures .total)) (room-is (scoped-exists _ _ refl a) (c .before .before .before .before .before .before .before .before .before .before .before .pre .1 .1)))))
     (λ c κs. slot-tabled (c .before .before .before .before .before .before .before .before .before .node8 .given .0 .0) (condition-arm t (c .before .before .before .before .before .before .before .before .before .before .before) (c .before .before .before .before .before .before .before .before .before .node8 .given .1) .tabled))
     (λ c κs. search needs)
-    (λ c κs. let a = condition-arm t (c .before .before .before .before .before .before .before .before .before .before .before .before .before .before) (c .before .before .before .before .before .before .before .before .before .before .before .before .node8 .given .1) in let d = down (a .children .0) (c .before .before .before .before .before .before .before .before .before .before .before .before .before .before .before .before .before .pre .0) in (d .0, (d .1, room-rest _ _ (c .before .before .before .before .before .check-exists-safe .ensures) (room-rest _ _ (c .before .before .before .before .before .before .before .before .before .reject-reserved-binder .ensures) (room-is (scoped-exists _ _ (c .before .union .ensures ∙ ap₂ _∪_ refl (c .before .before .slot-name .ensures)) a) (c .before .before .before .before .before .before .before .before .before .before .before .before .before .before .before .before .before .pre .1 .1))))))
+    (λ c κs. let a = condition-arm t (c .before .before .before .before .before .before .before .before .before .before .before .before .before .before) (c .before .before .before .before .before .before .before .before .before .before .before .before .node8 .given .1) in let d = down (a .children .0) (c .before .before .before .before .before .before .before .before .before .before .before .before .before .before .before .before .before .pre .0) in (d .0, (d .1, room-rest _ _ (c .before .before .before .before .before .check-exists-safe .ensures) (omega (arith, c .before .before .before .before .before .check-exists-safe .ensures .total, c .before .before .before .before .before .before .before .before .before .reject-reserved-binder .ensures .total)) (room-rest _ _ (c .before .before .before .before .before .before .before .before .before .reject-reserved-binder .ensures) (omega (arith, c .before .before .before .before .before .check-exists-safe .ensures .total, c .before .before .before .before .before .before .before .before .before .reject-reserved-binder .ensures .total)) (room-is (scoped-exists _ _ (c .before .union .ensures ∙ ap₂ _∪_ refl (c .before .before .slot-name .ensures)) a) (c .before .before .before .before .before .before .before .before .before .before .before .before .before .before .before .before .before .pre .1 .1))))))
     (λ c. search needs)
     (λ c κs. let a = condition-arm t (c .before .before .before .before) (c .before .before .node9 .given .1) in let d = down (a .children .0) (c .before .before .before .before .before .before .before .pre .0) in (d .0, (d .1, room-first _ _ (room-is (scoped-comparison _ _ a) (c .before .before .before .before .before .before .before .pre .1 .1)))))
-    (λ c κs. let a = condition-arm t (c .before .before .before .before .before .before .before .before) (c .before .before .before .before .before .before .node9 .given .1) in let d = down (a .children .1 .0) (c .before .before .before .before .before .before .before .before .before .before .before .pre .0) in (d .0, (d .1, room-rest _ _ (c .before .before .before .check-operand .ensures) (room-is (scoped-comparison _ _ a) (c .before .before .before .before .before .before .before .before .before .before .before .pre .1 .1)))))
+    (λ c κs. let a = condition-arm t (c .before .before .before .before .before .before .before .before) (c .before .before .before .before .before .before .node9 .given .1) in let d = down (a .children .1 .0) (c .before .before .before .before .before .before .before .before .before .before .before .pre .0) in (d .0, (d .1, room-rest _ _ (c .before .before .before .check-operand .ensures) (omega (arith, c .before .before .before .check-operand .ensures .total)) (room-is (scoped-comparison _ _ a) (c .before .before .before .before .before .before .before .before .before .before .before .pre .1 .1)))))
     (λ c. search needs)
     (λ c κs. let a = condition-arm t (c .before .before .before .before) (c .before .before .node10 .given .1) in (a .children .0 .has, room-is (scoped-predicate _ _ a) (c .before .before .before .before .before .before .before .pre .1 .1)))
     (λ c. search needs)
     (λ c κs. let a = condition-arm t (c .before .before .before .before) (c .before .before .node11 .given .1) in (slot-tabled (c .before .before .node11 .given .0 .0) (a .tabled), room-is (scoped-tp _ _ a) (c .before .before .before .before .before .before .before .pre .1 .1)))
     (λ c κs. let a = condition-arm t (c .before .before) refl in let d = down (of-plain (passes t (c .before)) a) (c .before .before .before .before .before .pre .0) in (d .0, (d .1, room-is (plain-law (scoped-one _ _) (scoped-refine _ _) (passes t (c .before)) a) (c .before .before .before .before .before .pre .1 .1))))
     (λ c κs. let a = condition-arm t (c .before .before) refl in let d = down (of-two (joins t (c .before)) a .0) (c .before .before .before .before .before .pre .0) in (d .0, (d .1, room-first _ _ (room-is (two-law (scoped-two _ _) (joins t (c .before)) a) (c .before .before .before .before .before .pre .1 .1)))))
-    (λ c κs. let a = condition-arm t (c .before .before .before .before .before .before) refl in let d = down (of-two (joins t (c .before .before .before .before .before)) a .1) (c .before .before .before .before .before .before .before .before .before .pre .0) in (d .0, (d .1, room-rest _ _ (c .before .before .before .check-condition3 .ensures) (room-is (two-law (scoped-two _ _) (joins t (c .before .before .before .before .before)) a) (c .before .before .before .before .before .before .before .before .before .pre .1 .1)))))
+    (λ c κs. let a = condition-arm t (c .before .before .before .before .before .before) refl in let d = down (of-two (joins t (c .before .before .before .before .before)) a .1) (c .before .before .before .before .before .before .before .before .before .pre .0) in (d .0, (d .1, room-rest _ _ (c .before .before .before .check-condition3 .ensures) (omega (arith, c .before .before .before .check-condition3 .ensures .total)) (room-is (two-law (scoped-two _ _) (joins t (c .before .before .before .before .before)) a) (c .before .before .before .before .before .before .before .before .before .pre .1 .1)))))
     (λ c. search needs)
     (λ c. wrote-is (scoped-exists _ _ (c .before .before .before .before .union .ensures ∙ ap₂ _∪_ refl (c .before .before .before .before .before .slot-name .ensures)) (condition-arm t (c .before .before .before .before .before .before .before .before .before .before .before .before .before .before .before .before .before) (c .before .before .before .before .before .before .before .before .before .before .before .before .before .before .before .node8 .given .1))) (wrote-then (c .before .before .before .before .before .before .before .before .before .before .before .before .reject-reserved-binder .ensures) (wrote-then (c .before .before .before .before .before .before .before .before .check-exists-safe .ensures) (c .before .before .check-condition .ensures))))
     (λ c. search needs)
@@ -138,7 +139,7 @@ pub +check-condition+check-operand-spec : {M : Type 1} → statement M
     (λ c κs. c .before .before .pre .1 .0)
     (λ c. search needs)
     (λ c κs. let a = operand-arm t (c .before .before .before .before) (c .before .before .node .given .1) in let d = down (a .children .0) (c .before .before .before .before .before .before .before .pre .0) in (d .0, (d .1, room-first _ _ (room-is (scoped-arith _ _ a) (c .before .before .before .before .before .before .before .pre .1 .1)))))
-    (λ c κs. let a = operand-arm t (c .before .before .before .before .before .before .before .before) (c .before .before .before .before .before .before .node .given .1) in let d = down (a .children .1 .0) (c .before .before .before .before .before .before .before .before .before .before .before .pre .0) in (d .0, (d .1, room-rest _ _ (c .before .before .before .check-operand .ensures) (room-is (scoped-arith _ _ a) (c .before .before .before .before .before .before .before .before .before .before .before .pre .1 .1)))))
+    (λ c κs. let a = operand-arm t (c .before .before .before .before .before .before .before .before) (c .before .before .before .before .before .before .node .given .1) in let d = down (a .children .1 .0) (c .before .before .before .before .before .before .before .before .before .before .before .pre .0) in (d .0, (d .1, room-rest _ _ (c .before .before .before .check-operand .ensures) (omega (arith, c .before .before .before .check-operand .ensures .total)) (room-is (scoped-arith _ _ a) (c .before .before .before .before .before .before .before .before .before .before .before .pre .1 .1)))))
     (λ c. search needs)
     (λ c. search needs)
     (λ c. search needs)
@@ -148,7 +149,7 @@ pub +check-condition+check-operand-spec : {M : Type 1} → statement M
     (λ c κs. (c .before .before .before .before .before .before .before .pre .1 .0, room-first _ _ (room-is (scoped-aggregate _ _ (gathers t (c .before .before .before)) refl (operand-arm t (c .before .before .before .before) refl) (sym (c .before .before .is-skipped .ensures) ∙ c .before .if1 .left)) (c .before .before .before .before .before .before .before .pre .1 .1))))
     (λ c κs. of-aggregate (gathers t (c .before .before .before .before .before .before)) (operand-arm t (c .before .before .before .before .before .before .before) refl) .0 .has)
     (λ c κs. search needs)
-    (λ c κs. let a = operand-arm t (c .before .before .before .before .before .before .before .before .before .before) refl in let d = down (of-aggregate (gathers t (c .before .before .before .before .before .before .before .before .before)) a .1) (c .before .before .before .before .before .before .before .before .before .before .before .before .before .pre .0) in (d .0, (d .1, room-rest _ _ (c .before .before .before .before .before .check-agg-expr .ensures) (room-is (scoped-aggregate _ _ (gathers t (c .before .before .before .before .before .before .before .before .before)) (c .before .union .ensures ∙ ap₂ _∪_ refl (c .before .before .binder-names .ensures)) a (sym (c .before .before .before .before .before .before .before .before .is-skipped .ensures) ∙ c .before .before .before .before .before .before .before .if1 .left)) (c .before .before .before .before .before .before .before .before .before .before .before .before .before .pre .1 .1)))))
+    (λ c κs. let a = operand-arm t (c .before .before .before .before .before .before .before .before .before .before) refl in let d = down (of-aggregate (gathers t (c .before .before .before .before .before .before .before .before .before)) a .1) (c .before .before .before .before .before .before .before .before .before .before .before .before .before .pre .0) in (d .0, (d .1, room-rest _ _ (c .before .before .before .before .before .check-agg-expr .ensures) (omega (arith, c .before .before .before .before .before .check-agg-expr .ensures .total)) (room-is (scoped-aggregate _ _ (gathers t (c .before .before .before .before .before .before .before .before .before)) (c .before .union .ensures ∙ ap₂ _∪_ refl (c .before .before .binder-names .ensures)) a (sym (c .before .before .before .before .before .before .before .before .is-skipped .ensures) ∙ c .before .before .before .before .before .before .before .if1 .left)) (c .before .before .before .before .before .before .before .before .before .before .before .before .before .pre .1 .1)))))
     (λ c. search needs)
     (λ c. wrote-is (scoped-arith _ _ (operand-arm t (c .before .before .before .before .before .before .before .before .before .before .before) (c .before .before .before .before .before .before .before .before .before .node .given .1))) (wrote-then (c .before .before .before .before .before .before .check-operand .ensures) (c .before .before .check-operand2 .ensures)))
     (λ c. search needs)

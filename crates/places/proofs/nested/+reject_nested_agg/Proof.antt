@@ -2,6 +2,7 @@
 use mathlib.Core.Path.{_≡_, refl, _∙_}
 use mathlib.Core.Logic.{⊎-elim}
 use denote.Ref.{now}
+use native.Mathlib.Omega.{arith}
 use borrow.Author.Needs.{needs}
 use Rattle.paper.specs.declared.Node.{Node}
 use Rattle.paper.specs.declared.Node.the-variants as node
@@ -57,7 +58,7 @@ pub +reject-nested-agg-spec : {M : Type 1} → statement M
     (λ c. search needs)
     (λ c. search needs)
     (λ c κs. let a = search-arm t (c .before .before) refl in let d = down (of-terms (row-terms (row t (c .before))) a .0) (c .before .before .before .before .before .pre .0) in (d .0, (d .1, room-first _ _ (room-is (nested-row (row t (c .before)) a) (c .before .before .before .before .before .pre .1 .1)))))
-    (λ c κs. let a = search-arm t (c .before .before .before .before .before .before) refl in let d = down (of-terms (row-terms (row t (c .before .before .before .before .before))) a .1) (c .before .before .before .before .before .before .before .before .before .pre .0) in (d .0, (d .1, room-rest _ _ (c .before .before .before .reject-nested-agg2 .ensures) (room-is (nested-row (row t (c .before .before .before .before .before)) a) (c .before .before .before .before .before .before .before .before .before .pre .1 .1)))))
+    (λ c κs. let a = search-arm t (c .before .before .before .before .before .before) refl in let d = down (of-terms (row-terms (row t (c .before .before .before .before .before))) a .1) (c .before .before .before .before .before .before .before .before .before .pre .0) in (d .0, (d .1, room-rest _ _ (c .before .before .before .reject-nested-agg2 .ensures) (omega (arith, c .before .before .before .reject-nested-agg2 .ensures .total)) (room-is (nested-row (row t (c .before .before .before .before .before)) a) (c .before .before .before .before .before .before .before .before .before .pre .1 .1)))))
     (λ c. search needs)
     (λ c. wrote-is (in-nested (search-arm t (c .before .before .before .before .before) refl) ∙ nested-aggregate _ _ _ (c .before .before .before .before .match .keys1)) (c .before .before .reject .ensures))
     (λ c. search needs)

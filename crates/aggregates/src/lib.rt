@@ -21,7 +21,7 @@ ghost use Rattle.names.specs.Words.{mem};
 ghost use Rattle.record.specs.Stored.{Has};
 ghost use Rattle.trees.specs.Trees.{condition-of, term-of, binders-of};
 ghost use Rattle.writes.specs.Written.{Room, Wrote};
-ghost use Rattle.places.specs.Aggregates.{skips, five, five-of};
+ghost use Rattle.aggregates.specs.Aggregates.{skips, five, five-of};
 
 pub fn has_sigil_binder(bytes: &[u8], starts: &[u16; 512], i: NodeNo) -> bool
     requires { ⌜ Has (now bytes) (now starts) (i .0) ⌝ }

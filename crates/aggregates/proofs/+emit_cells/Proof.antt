@@ -2,6 +2,7 @@
 use mathlib.Core.Path.{_≡_, refl, ap, _∙_}
 use mathlib.Core.List.{List}
 use denote.Ref.{now}
+use native.Mathlib.Omega.{arith}
 use borrow.Author.Needs.{needs}
 use Rattle.paper.specs.declared.Finding.{Finding}
 use Rattle.paper.specs.declared.Node.{Node}
@@ -10,17 +11,17 @@ use Rattle.paper.specs.Places.{Cell, at-cells, findings}
 use Rattle.paper.specs.Scoping.{cells}
 use Rattle.trees.proofs.Arms.{Arm, arm, down}
 use Rattle.writes.proofs.WriteLaws.{wrote-none, wrote-then, wrote-is, room-is, room-first, room-rest}
-use Rattle.places.proofs.AggregateLaws.{in-cells, next-cell, cells-append, no-cell, cells-end, no-entry-at-no-cell}
+use Rattle.aggregates.proofs.AggregateLaws.{in-cells, next-cell, cells-append, no-cell, cells-end, no-entry-at-no-cell}
 use Prim.Native.Nat.{ℕ, _<_}
 use borrow.Fn.Kinds.{In}
 use borrow.Fn.PlainCycle.{Measures, is, falls, and}
-use Rattle.places.proofs.aggregates.emit_cells.Reads as emit-cells
-use Rattle.places.proofs.aggregates.emit_cells.Kinds as emit-cells-kinds
-use Rattle.places.proofs.aggregates.+emit_cells.Lts-emit_cells as emit-cells-lts
-use Rattle.places.proofs.aggregates.emit_cell.Reads as emit-cell-reads
+use Rattle.aggregates.proofs.emit_cells.Reads as emit-cells
+use Rattle.aggregates.proofs.emit_cells.Kinds as emit-cells-kinds
+use Rattle.aggregates.proofs.+emit_cells.Lts-emit_cells as emit-cells-lts
+use Rattle.aggregates.proofs.emit_cell.Reads as emit-cell-reads
 use Rattle.record.proofs.access.node_at.Reads as node-at-reads
-use Rattle.places.proofs.aggregates.+emit_cells.{statement}
-use Rattle.places.proofs.aggregates.+emit_cells.Tie.{close}
+use Rattle.aggregates.proofs.+emit_cells.{statement}
+use Rattle.aggregates.proofs.+emit_cells.Tie.{close}
 
 abbrev μ-cells : Measures 3 emit-cells-kinds.ps ℕ
 μ-cells κs a = a .1 .1 .0 .0
@@ -49,7 +50,7 @@ pub +emit-cells-spec : {M : Type 1} → statement M
     (λ c κs. c .before .before .pre .1 .0)
     (λ c. search needs)
     (λ c κs. room-first _ _ (room-is (ap (at _ _) (next-cell (cells-arm t (c .before .before .before .before) (c .before .before .node .given .1))) ∙ cells-append _ _ _ _) (c .before .before .before .before .before .before .before .pre .1 .1)))
-    (λ c κs. let a = cells-arm t (c .before .before .before .before .before .before .before .before) (c .before .before .before .before .before .before .node .given .1) in let d = down (a .children .0) (c .before .before .before .before .before .before .before .before .before .before .before .pre .0) in (d .0, (d .1, room-rest _ _ (c .before .before .before .emit-cell .ensures) (room-is (ap (at _ _) (next-cell a) ∙ cells-append _ _ _ _) (c .before .before .before .before .before .before .before .before .before .before .before .pre .1 .1)))))
+    (λ c κs. let a = cells-arm t (c .before .before .before .before .before .before .before .before) (c .before .before .before .before .before .before .node .given .1) in let d = down (a .children .0) (c .before .before .before .before .before .before .before .before .before .before .before .pre .0) in (d .0, (d .1, room-rest _ _ (c .before .before .before .emit-cell .ensures) (omega (arith, c .before .before .before .emit-cell .ensures .total)) (room-is (ap (at _ _) (next-cell a) ∙ cells-append _ _ _ _) (c .before .before .before .before .before .before .before .before .before .before .before .pre .1 .1)))))
     (λ c. search needs)
     (λ c. wrote-is (ap (at _ _) (next-cell (cells-arm t (c .before .before .before .before .before .before .before .before .before .before .before) (c .before .before .before .before .before .before .before .before .before .node .given .1))) ∙ cells-append _ _ _ _) (wrote-then (c .before .before .before .before .before .before .emit-cell .ensures) (c .before .before .emit-cells .ensures)))
     (λ c. wrote-is (ap (at _ _) (in-cells cells (cells-arm t (c .before) refl) ∙ no-cell cells _ cells-end _ _ _ (c .match .keys2)) ∙ no-entry-at-no-cell _ _) wrote-none))

@@ -9,9 +9,9 @@ use Rattle.paper.specs.Places.{Broken, gather, findings}
 use Rattle.trees.proofs.Arms.{Arm, arm}
 use Rattle.free.proofs.FreeLaws.{slot-tabled}
 use Rattle.writes.proofs.WriteLaws.{wrote-none, wrote-is, room-is}
-use Rattle.places.proofs.AggregateLaws.{five-sum, five-count, five-none}
-use Rattle.places.proofs.aggregates.check_agg_expr.Statement.{statement}
-use Rattle.places.proofs.aggregates.check_agg_expr.Tie as tie
+use Rattle.aggregates.proofs.AggregateLaws.{five-sum, five-count, five-none}
+use Rattle.aggregates.proofs.check_agg_expr.Statement.{statement}
+use Rattle.aggregates.proofs.check_agg_expr.Tie as tie
 
 here : (c : tie.After-node-at) {m : Node} → c .node-at .result ≡ m
     → Arm (now (c .before .before .before .args .bytes)) (now (c .before .before .before .args .starts)) (c .before .before .before .args .i .0) m
