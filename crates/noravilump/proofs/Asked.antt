@@ -1,26 +1,29 @@
 -- Each question's answer, by the reader's verdict: the refusal, or what the definitions say of the root. Assumes nothing.
 use mathlib.Core.Path.{_≡_, sym, ap, ap₂, _∙_}
-use mathlib.Core.List.{List, [], _∷_}
+use mathlib.Core.List.{List, [], _∷_, _++_}
 use Prim.Native.Nat.{ℕ, _-_, _<_, _≤_}
-use lib.ListN.{getD}
+use lib.ListN.{length, length-map, getD}
+use borrow.Author.Tests.{le-leb, lt-leb}
 use native.Mathlib.Omega.{arith}
 use Rattle.paper.specs.declared.NodeNo.{NodeNo}
 use Rattle.paper.specs.declared.Finding.{Finding}
 use Rattle.paper.specs.declared.Verdict.the-variants.{Counts, Refused}
 use Rattle.paper.specs.declared.Answer.the-variants as answer
 use Rattle.paper.specs.declared.Arithmetic.the-variants as arith
+use Rattle.paper.specs.declared.Listing.the-variants as listing
 use Rattle.paper.specs.Record.{pick, node-no}
 use Rattle.paper.specs.TurnedAway as outcome
-use Rattle.paper.specs.TurnedAway.{Contents, read}
-use Rattle.paper.specs.Sets.{Set}
+use Rattle.paper.specs.TurnedAway.{Contents, Outcome, read}
+use Rattle.paper.specs.Sets.{Set, none}
 use Rattle.paper.specs.Tree.{root-no, root}
 use Rattle.paper.specs.FreeAndRestricted.{free}
 use Rattle.paper.specs.Places.{condition, for-names, findings}
 use Rattle.paper.specs.Scoping.{scoping-part}
-use Rattle.paper.specs.Demands.{closedness-broken, closedness-part, has-arith}
-use Rattle.paper.specs.Questions.{first, answered, scoping, closedness, arithmetic-of, arithmetic}
-use Rattle.paper.proofs.Lengths.{scoping-length}
-use Rattle.paper.proofs.Fitting.{scoping-fits}
+use Rattle.paper.specs.Demands.{closedness-broken, closedness-part, demands-part, has-arith}
+use Rattle.paper.specs.TheList.{the-list, pack, packed}
+use Rattle.paper.specs.Questions.{first, answered, scoping, closedness, demands, arithmetic-of, arithmetic, listing-of, list, buffer-of, list-buffer}
+use Rattle.paper.proofs.Lengths.{scoping-length, demands-length, list-length}
+use Rattle.paper.proofs.Fitting.{scoping-fits, demands-fits}
 use Rattle.names.specs.Words.{mem}
 use Rattle.record.specs.declared.reader.Reading.{Reading}
 use Rattle.record.specs.Arena.{Read}
@@ -30,8 +33,10 @@ use Rattle.record.proofs.Verdicts.{refused-is, Told, counts-are}
 use Rattle.trees.specs.Trees.{condition-of}
 use Rattle.writes.specs.Written.{Room, Wrote, answer-of}
 use Rattle.writes.proofs.WriteLaws.{wrote-is, room-is}
-use Rattle.writes.proofs.FirstLaws.{first-told}
+use Rattle.writes.proofs.FirstLaws.{first-told, all-told}
 use Rattle.scoping.specs.Scoped.{scoped}
+use Rattle.demands.specs.Demanded.{demanded}
+use Rattle.listing.specs.Parts.{demands-of, listed}
 
 -- ---- a refusal
 
@@ -50,6 +55,14 @@ module _ (bytes : List ℕ) (r : Reading) (p : Read bytes r) {n o : ℕ} (e : r 
   pub closedness-refused : closedness bytes ≡ answer.Refused n o
   unfolding closedness
   closedness-refused = answered-refused closedness-part
+
+  pub demands-refused : demands bytes ≡ answer.Refused n o
+  unfolding demands
+  demands-refused = answered-refused demands-part
+
+  pub list-refused : (before : List ℕ) → (list bytes (length before) ≡ listing.Refused n o) × (list-buffer bytes before ≡ before)
+  unfolding list listing-of list-buffer buffer-of
+  list-refused before = (ap (λ (r : Outcome). listing-of r (length before)) refused, ap (λ (r : Outcome). buffer-of r before) refused)
 
   pub arithmetic-refused : arithmetic bytes ≡ arith.Refused n o
   unfolding arithmetic arithmetic-of
@@ -95,6 +108,55 @@ module _ (bytes : List ℕ) (r : Reading) (p : Read bytes r) {n k : ℕ} (e : r 
     scoping-told seed w =
         first-told (scoping-part (contents bytes) seed) (scoping-fits (contents bytes) (told .formed) seed) (wrote-is (sym (scoped-part seed)) w)
         ∙ sym (ap (answered (λ c. scoping-part c seed)) (told .outcome))
+
+    demanded-part : demands-of (condition-of bytes (i .0)) ≡ demands-part (contents bytes)
+    unfolding demands-of demanded demands-part root
+    demanded-part = ap (λ (m : NodeNo). demands-of (condition-of bytes (m .0))) (sym (last-node i d))
+
+    pub demands-room : Room (demands-of (condition-of bytes (i .0))) 0
+    demands-room = room-is (sym demanded-part) (let l = demands-length (contents bytes) (told .formed) in record { left = omega arith })
+
+    pub demands-told : {x count : ℕ} {after : List ℕ} → Wrote (demands-of (condition-of bytes (i .0))) 0 count (x ∷ []) after → answer-of count (getD after 0 0) ≡ demands bytes
+    unfolding demands answered
+    demands-told w =
+        first-told (demands-part (contents bytes)) (demands-fits (contents bytes) (told .formed)) (wrote-is (sym demanded-part) w)
+        ∙ sym (ap (answered demands-part) (told .outcome))
+
+    -- the three parts
+    abbrev written : List Finding
+    written = listed (mem (r .arena .reserved)) i (condition-of bytes (i .0))
+
+    list-parts : written ≡ the-list (contents bytes)
+    unfolding listed the-list closedness-part closedness-broken root
+    list-parts =
+        ap₂ {C = List Finding} _++_ (scoped-part none)
+        (ap₂ {C = List Finding} _++_ (ap (λ (m : NodeNo). findings (for-names 28 m (free (condition-of bytes (m .0))))) (sym (last-node i d))) demanded-part)
+
+    pub list-room : Room written 0
+    list-room = room-is (sym list-parts) (let l = list-length (contents bytes) (told .formed) in record { left = omega arith })
+
+    counted : {count : ℕ} {before after : List ℕ} → Wrote written 0 count before after → count ≡ length (packed (contents bytes))
+    unfolding packed
+    counted w = let e = ap length list-parts in let f = length-map (the-list (contents bytes)) pack in let t = w .total in omega arith
+
+    module _ {count : ℕ} {one after : List ℕ} (w : Wrote written 0 count one after) (before : List ℕ) where
+      pub list-without-room : length before < count → (list bytes (length before) ≡ listing.NoRoom count) × (list-buffer bytes before ≡ before)
+      unfolding list listing-of list-buffer buffer-of
+      list-without-room h =
+          let e = counted w in
+          let f = lt-leb (length (packed (contents bytes))) (length before) (omega arith) in
+          (rw (told .outcome, f) (ap listing.NoRoom (sym e)), rw (told .outcome, f))
+
+      pub list-with-room : {next : ℕ} {filled : List ℕ} → count ≤ length before → Wrote written 0 next before filled
+          → (listing.Listed next ≡ list bytes (length before)) × (filled ≡ list-buffer bytes before)
+      unfolding list listing-of list-buffer buffer-of packed
+      list-with-room h v =
+          let e = counted w in
+          let f = le-leb (length (packed (contents bytes))) (length before) (omega arith) in (
+            rw (told .outcome, f) (ap listing.Listed (counted v)),
+            rw (told .outcome, f)
+                (all-told (the-list (contents bytes)) (let g = length-map (the-list (contents bytes)) pack in omega arith) (wrote-is (sym list-parts) v)),
+          )
 
     pub closedness-told : closedness bytes ≡ first (findings (for-names 28 i (free (condition-of bytes (i .0)))))
     unfolding closedness answered closedness-part closedness-broken root

@@ -5,6 +5,8 @@ use Rattle.paper.specs.declared.Answer.{Answer}
 use Rattle.paper.specs.declared.Answer.the-variants as answer
 use Rattle.paper.specs.declared.Arithmetic.{Arithmetic}
 use Rattle.paper.specs.declared.Arithmetic.the-variants as arithmetic
+use Rattle.paper.specs.declared.Listing.{Listing}
+use Rattle.paper.specs.declared.Listing.the-variants as listing
 
 unfoldable pub answer-passed : Verdict → Answer
 answer-passed (Counts names nodes) = answer.Accepted
@@ -13,3 +15,7 @@ answer-passed (Refused number offset) = answer.Refused number offset
 unfoldable pub arithmetic-passed : Verdict → Arithmetic
 arithmetic-passed (Counts names nodes) = arithmetic.No
 arithmetic-passed (Refused number offset) = arithmetic.Refused number offset
+
+unfoldable pub listing-passed : Verdict → Listing
+listing-passed (Counts names nodes) = listing.Listed 0
+listing-passed (Refused number offset) = listing.Refused number offset

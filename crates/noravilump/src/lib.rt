@@ -1,20 +1,24 @@
 // The public questions. Any bytes may be asked about.
 use checks::arith::condition_has_arith;
 use checks::closed::check_leaf_closed;
+use listing::check_demands;
+use listing::write_list;
 use names::Names;
 use paper::Answer;
 use paper::Arithmetic;
+use paper::Listing;
 use paper::NodeNo;
 use paper::Verdict;
 use record::reader::read;
 use scoping::check_condition;
 use writes::first;
 ghost use mathlib.Core.Path.{_≡_};
+ghost use lib.ListN.{length};
 ghost use Prim.Native.Nat.{_-_, _<_, _≤_};
 ghost use Rattle.paper.specs.Record.{node-no};
-ghost use Rattle.paper.specs.Questions.{scoping as scoping-answer, closedness as closedness-answer, arithmetic as arithmetic-answer};
+ghost use Rattle.paper.specs.Questions.{scoping as scoping-answer, closedness as closedness-answer, demands as demands-answer, arithmetic as arithmetic-answer, list as list-answer, list-buffer};
 ghost use Rattle.names.specs.Words.{mem};
-ghost use Rattle.noravilump.specs.Passed.{answer-passed, arithmetic-passed};
+ghost use Rattle.noravilump.specs.Passed.{answer-passed, arithmetic-passed, listing-passed};
 
 // The last node.
 fn root(nodes: usize) -> NodeNo
@@ -39,6 +43,15 @@ fn passed_arithmetic(v: Verdict) -> Arithmetic
     match v {
         Verdict::Refused { number, offset } => Arithmetic::Refused { number, offset },
         _ => Arithmetic::No,
+    }
+}
+
+fn passed_listing(v: Verdict) -> Listing
+    ensures { λ r. ⌜ r ≡ listing-passed v ⌝ }
+{
+    match v {
+        Verdict::Refused { number, offset } => Listing::Refused { number, offset },
+        _ => Listing::Listed(0),
     }
 }
 
@@ -70,6 +83,21 @@ pub fn closedness(bytes: &[u8]) -> Answer
     check_leaf_closed(bytes, &a.starts, root(nodes))
 }
 
+// A refusal of the reader; the first entry of 30 to 32; or accepted.
+pub fn demands(bytes: &[u8]) -> Answer
+    ensures { λ r. ⌜ r ≡ demands-answer (now (bytes .entry)) ⌝ }
+{
+    let r = read(bytes);
+    let v = r.verdict;
+    let a = r.arena;
+    let Verdict::Counts { names: _, nodes } = v else {
+        return passed_answer(v);
+    };
+    let mut one = [0u32; 1];
+    let count = check_demands(bytes, &a.starts, root(nodes), &mut one, 0);
+    first(count, one[0])
+}
+
 // A refusal of the reader; or whether arithmetic is an operand of a comparison.
 pub fn arithmetic(bytes: &[u8]) -> Arithmetic
     ensures { λ r. ⌜ r ≡ arithmetic-answer (now (bytes .entry)) ⌝ }
@@ -84,4 +112,25 @@ pub fn arithmetic(bytes: &[u8]) -> Arithmetic
         return Arithmetic::Yes;
     }
     Arithmetic::No
+}
+
+// A refusal of the reader; the entries needed, where the buffer has fewer; or the list, in the first entries of the buffer, and its length. It is counted
+// first, so that a list without room writes nothing.
+pub fn list(bytes: &[u8], out: &mut [u32]) -> Listing
+    ensures { λ r. ⌜ (r ≡ list-answer (now (bytes .entry)) (length (now (out .entry)))) × (now (out .exit) ≡ list-buffer (now (bytes .entry)) (now (out .entry))) ⌝ }
+{
+    let r = read(bytes);
+    let v = r.verdict;
+    let a = r.arena;
+    let Verdict::Counts { names: _, nodes } = v else {
+        return passed_listing(v);
+    };
+    let i = root(nodes);
+    let mut one = [0u32; 1];
+    let count = write_list(bytes, &a.starts, i, a.reserved, &mut one);
+    if out.len() < count {
+        return Listing::NoRoom(count);
+    }
+    let written = write_list(bytes, &a.starts, i, a.reserved, out);
+    Listing::Listed(written)
 }

@@ -1,0 +1,257 @@
+-- What is demanded from a node on: by `found-at`, a condition's own entries if it is asked, and then what is found below, with what is tied there; for each
+-- kind from its parts. Assumes nothing.
+use mathlib.Core.Path.{_≡_, refl, sym, ap, ap₂, _∙_}
+use mathlib.Core.Bool.{Bool, true, false}
+use mathlib.Core.List.{List, [], _∷_, _++_, append-nil}
+use Prim.Native.Nat.{ℕ}
+use types.Run.{OneOf, miss}
+use denote.Enum.Declared.{tagOf}
+use Rattle.paper.proofs.Node.{the-type}
+use Rattle.paper.specs.declared.NodeNo.{NodeNo}
+use Rattle.paper.specs.declared.NameNo.{NameNo}
+use Rattle.paper.specs.declared.Finding.{Finding}
+use Rattle.paper.specs.declared.Slot.{Slot}
+use Rattle.paper.specs.declared.Tied.{Tied}
+use Rattle.paper.specs.declared.Tied.the-variants.{Left, Right, Neither}
+use Rattle.paper.specs.declared.Node.{Node}
+use Rattle.paper.specs.declared.Node.the-variants as node
+use Rattle.paper.specs.Record.{condition as condition-sort, term, pick, node-no}
+use Rattle.paper.specs.Sets.{Set, none, _∪_, _∖_}
+use Rattle.paper.specs.Tree.{Condition, Term, Tree, as-condition, as-term, planted}
+use Rattle.paper.specs.FreeAndRestricted.{named, binder-names, free, term-free, arguments-free, items-free, restricted, tied}
+use Rattle.paper.specs.Places.{Spot, condition, operand, Place, asked-at, for-names, gather, findings, found}
+use Rattle.paper.specs.Demands.{comparison-broken, demand-below, demand-broken}
+use Rattle.paper.proofs.Walks.{found-at}
+use Rattle.paper.proofs.Exact.{extent-pos, demand-shrinks}
+use Rattle.trees.specs.Trees.{tree-of, condition-of, term-of, binders-of}
+use Rattle.trees.specs.Terms.{free-in}
+use Rattle.trees.proofs.Arms.{Child, Arm}
+use Rattle.trees.proofs.Sorts.{at-term}
+use Rattle.trees.proofs.Shapes.{Aggregate, sum, count}
+use Rattle.trees.proofs.ByKind.{condition-cases, term-cases}
+use Rattle.writes.specs.Written.{Room, Wrote}
+use native.Mathlib.Nat.{le-refl}
+use Rattle.writes.proofs.WriteLaws.{wrote-then, wrote-is, room-is, room-first, room-rest}
+use Rattle.demands.specs.Demanded.{demanded, owed, owed-compared}
+
+-- a time operator over one condition
+pub data Past (b : NodeNo) : Node → Type 0 where
+  formerly : {w : ℕ} → Past b (node.Formerly b w)
+  previous : {w : ℕ} → Past b (node.Previous b w)
+
+pub of-past : {bytes starts : List ℕ} {i : ℕ} {b : NodeNo} {m : Node} → Past b m → Arm bytes starts i m → Child bytes starts i condition-sort (b .0)
+of-past formerly a = a .children .0
+of-past previous a = a .children .0
+
+-- ---- from a place on
+
+-- what is found at some places and below them
+abbrev walked : List Place → List Finding
+walked ps = gather (found demand-below demand-broken) ps
+
+-- what is found below a condition, which is the same whether it is asked
+unfoldable pub below-it : Condition → Set → List Finding
+below-it c ties = walked (demand-below (asked-at (condition c) ties))
+
+pub own-first : (asked : Bool) (c : Condition) (ties : Set) → demanded asked (condition c) ties ≡ pick asked (owed c ties) [] ++ below-it c ties
+unfolding demanded owed below-it demand-below demand-broken gather
+own-first true c ties = found-at demand-below demand-broken extent-pos demand-shrinks _
+own-first false c ties = found-at demand-below demand-broken extent-pos demand-shrinks _
+
+-- the same of what is written, and of the room for it
+module _ (asked : Bool) (c : Condition) (ties : Set) where
+  pub wrote-own-first : {at m r : ℕ} {x y z : List ℕ} → Wrote (pick asked (owed c ties) []) at m x y → Wrote (below-it c ties) m r y z
+      → Wrote (demanded asked (condition c) ties) at r x z
+  wrote-own-first own rest = wrote-is (own-first asked c ties) (wrote-then own rest)
+
+  pub room-own : {at : ℕ} → Room (demanded asked (condition c) ties) at → Room (pick asked (owed c ties) []) at
+  room-own room = room-first _ _ (room-is (own-first asked c ties) room)
+
+  pub room-below : {at m : ℕ} {x y : List ℕ} → Wrote (pick asked (owed c ties) []) at m x y → Room (demanded asked (condition c) ties) at
+      → Room (below-it c ties) m
+  room-below own room = room-rest _ _ own (le-refl _) (room-is (own-first asked c ties) room)
+
+-- an operand owes nothing itself
+at-operand : (t : Term) (ties : Set) → demanded true (operand t) ties ≡ walked (demand-below (asked-at (operand t) ties))
+unfolding demanded demand-broken gather
+at-operand t ties = found-at demand-below demand-broken extent-pos demand-shrinks _
+
+-- one place below, or two, with what is tied there
+one : (asked : Bool) (s : Spot) {ties inner : Set} → inner ≡ ties → walked (record { spot = s; names = ties; asked = asked } ∷ []) ≡ demanded asked s inner
+unfolding demanded gather
+one asked s e = append-nil _ ∙ ap (demanded asked s) (sym e)
+
+two : (s t : Spot) {left right first second : Set} → first ≡ left → second ≡ right
+    → walked (asked-at s left ∷ asked-at t right ∷ []) ≡ demanded true s first ++ demanded true t second
+unfolding demanded gather
+two s t e d = ap₂ {C = List Finding} _++_ (ap (demanded true s) (sym e)) (one true t d)
+
+module _ (ties : Set) {bytes starts : List ℕ} {i : ℕ} where
+  -- ---- below a condition
+
+  in-below : {m : Node} → Arm bytes starts i m → below-it (condition-of bytes i) ties ≡ below-it (as-condition (planted (tree-of bytes) (node-no i) m)) ties
+  in-below a = ap (λ (t : Tree). below-it (as-condition t) ties) (a .tree)
+
+  pub below-and : {grown : Set} {l r : NodeNo} → grown ≡ ties ∪ restricted (condition-of bytes (l .0)) → Arm bytes starts i (node.And l r)
+      → below-it (condition-of bytes i) ties
+      ≡ demanded true (condition (condition-of bytes (l .0))) ties ++ demanded true (condition (condition-of bytes (r .0))) grown
+  unfolding planted as-condition below-it demand-below
+  below-and e a = in-below a ∙ two _ _ refl e
+
+  pub below-or : {l r : NodeNo} → Arm bytes starts i (node.Or l r)
+      → below-it (condition-of bytes i) ties
+      ≡ demanded true (condition (condition-of bytes (l .0))) ties ++ demanded true (condition (condition-of bytes (r .0))) ties
+  unfolding planted as-condition below-it demand-below
+  below-or a = in-below a ∙ two _ _ refl refl
+
+  pub below-since : {grown : Set} {l r : NodeNo} {w : ℕ} → grown ≡ ties ∪ restricted (condition-of bytes (r .0)) → Arm bytes starts i (node.Since l r w)
+      → below-it (condition-of bytes i) ties
+      ≡ demanded true (condition (condition-of bytes (l .0))) grown ++ demanded true (condition (condition-of bytes (r .0))) ties
+  unfolding planted as-condition below-it demand-below
+  below-since e a = in-below a ∙ two _ _ e refl
+
+  pub below-not : {b : NodeNo} → Arm bytes starts i (node.Not b)
+      → below-it (condition-of bytes i) ties ≡ demanded false (condition (condition-of bytes (b .0))) ties
+  unfolding planted as-condition below-it demand-below
+  below-not a = in-below a ∙ one _ _ refl
+
+  pub below-refine : {b l : NodeNo} → Arm bytes starts i (node.Refine b l)
+      → below-it (condition-of bytes i) ties ≡ demanded false (condition (condition-of bytes (b .0))) ties
+  unfolding planted as-condition below-it demand-below
+  below-refine a = in-below a ∙ one _ _ refl
+
+  pub below-past : {b : NodeNo} {m : Node} → Past b m → Arm bytes starts i m
+      → below-it (condition-of bytes i) ties ≡ demanded true (condition (condition-of bytes (b .0))) ties
+  unfolding planted as-condition below-it demand-below
+  below-past formerly a = in-below a ∙ one _ _ refl
+  below-past previous a = in-below a ∙ one _ _ refl
+
+  pub below-exists : {inner : Set} {s : Slot} {y : ℕ} {b : NodeNo} → inner ≡ ties ∖ named s → Arm bytes starts i (node.Exists s y b)
+      → below-it (condition-of bytes i) ties ≡ demanded true (condition (condition-of bytes (b .0))) inner
+  unfolding planted as-condition below-it demand-below
+  below-exists e a = in-below a ∙ one _ _ e
+
+  pub below-comparison : {o : ℕ} {l r : NodeNo} → Arm bytes starts i (node.Comparison o l r)
+      → below-it (condition-of bytes i) ties ≡ demanded true (operand (term-of bytes (l .0))) ties ++ demanded true (operand (term-of bytes (r .0))) ties
+  unfolding planted as-condition below-it demand-below
+  below-comparison a = in-below a ∙ two _ _ refl refl
+
+  -- ---- from an operand on
+
+  in-operand : {m : Node} → Arm bytes starts i m
+      → demanded true (operand (term-of bytes i)) ties ≡ demanded true (operand (as-term (planted (tree-of bytes) (node-no i) m))) ties
+  in-operand a = ap (λ (t : Tree). demanded true (operand (as-term t)) ties) (a .tree)
+
+  pub operand-arith : {o : ℕ} {l r : NodeNo} → Arm bytes starts i (node.Arith o l r)
+      → demanded true (operand (term-of bytes i)) ties ≡ demanded true (operand (term-of bytes (l .0))) ties ++ demanded true (operand (term-of bytes (r .0))) ties
+  unfolding planted as-term demand-below
+  operand-arith a = in-operand a ∙ at-operand _ ties ∙ two _ _ refl refl
+
+  pub operand-aggregate : {inner : Set} {l b : NodeNo} {m : Node} → inner ≡ ties ∖ binder-names (binders-of bytes (l .0)) → Aggregate l b m → Arm bytes starts i m
+      → demanded true (operand (term-of bytes i)) ties ≡ demanded true (condition (condition-of bytes (b .0))) inner
+  unfolding planted as-term demand-below
+  operand-aggregate e sum a = in-operand a ∙ at-operand _ ties ∙ one _ _ e
+  operand-aggregate e count a = in-operand a ∙ at-operand _ ties ∙ one _ _ e
+
+-- ---- a condition's own entries
+
+-- what the definitions say of a comparison's sides is what the code is given
+compared : (n : NodeNo) (l r : Term) (ties : Set) (s : Tied) {side : Tied} {left right : Set} → side ≡ s → left ≡ term-free l → right ≡ term-free r
+    → gather findings (comparison-broken n l r ties s) ≡ owed-compared n side left right ties
+unfolding owed-compared gather
+compared n l r ties s e p q = rw (e, p, q) (by-side s)
+  where
+    by-side : (s : Tied) → gather findings (comparison-broken n l r ties s) ≡ owed-compared n s (term-free l) (term-free r) ties
+    by-side (Left x) = append-nil _
+    by-side (Right x) = append-nil _
+    by-side Neither = append-nil _
+
+-- it is one rule, by the side that is tied
+module _ (n : NodeNo) (left right ties : Set) where
+  pub compared-left : {side : Tied} {x : NameNo} → side ≡ Left x → owed-compared n side left right ties ≡ findings (for-names 30 n (right ∖ ties))
+  unfolding owed-compared
+  compared-left e = rw e
+
+  pub compared-right : {side : Tied} {x : NameNo} → side ≡ Right x → owed-compared n side left right ties ≡ findings (for-names 30 n (left ∖ ties))
+  unfolding owed-compared
+  compared-right e = rw e
+
+  pub compared-neither : {side : Tied} {both : Set} → both ≡ left ∪ right → side ≡ Neither
+      → owed-compared n side left right ties ≡ findings (for-names 31 n (both ∖ ties))
+  unfolding owed-compared
+  compared-neither d e = rw (e, d)
+
+free-side : {bytes starts : List ℕ} {i k : ℕ} → Child bytes starts i term k → free-in (tree-of bytes k) ≡ term-free (term-of bytes k)
+free-side c = at-term term-free arguments-free items-free none _ (c .fits)
+
+module _ (ties : Set) {bytes starts : List ℕ} {i : ℕ} where
+  in-owed : {m : Node} → Arm bytes starts i m → owed (condition-of bytes i) ties ≡ owed (as-condition (planted (tree-of bytes) (node-no i) m)) ties
+  in-owed a = ap (λ (t : Tree). owed (as-condition t) ties) (a .tree)
+
+  pub owed-comparison : {side : Tied} {left right : Set} {o : ℕ} {l r : NodeNo} → side ≡ tied o (term-of bytes (l .0)) (term-of bytes (r .0))
+      → left ≡ free-in (tree-of bytes (l .0)) → right ≡ free-in (tree-of bytes (r .0)) → Arm bytes starts i (node.Comparison o l r)
+      → owed (condition-of bytes i) ties ≡ owed-compared (node-no i) side left right ties
+  unfolding planted as-condition owed demand-broken
+  owed-comparison s p q a = in-owed a ∙ compared _ _ _ _ _ s (p ∙ free-side (a .children .0)) (q ∙ free-side (a .children .1 .0))
+
+  pub owed-not : {needs : Set} {b : NodeNo} → needs ≡ free (condition-of bytes (b .0)) → Arm bytes starts i (node.Not b)
+      → owed (condition-of bytes i) ties ≡ findings (for-names 31 (node-no i) (needs ∖ ties))
+  unfolding planted as-condition owed demand-broken gather
+  owed-not e a = in-owed a ∙ append-nil _ ∙ ap (λ (z : Set). findings (for-names 31 (node-no i) (z ∖ ties))) (sym e)
+
+  pub owed-since : {needs known : Set} {l r : NodeNo} {w : ℕ} → needs ≡ free (condition-of bytes (l .0)) → known ≡ ties ∪ restricted (condition-of bytes (r .0))
+      → Arm bytes starts i (node.Since l r w) → owed (condition-of bytes i) ties ≡ findings (for-names 32 (node-no i) (needs ∖ known))
+  unfolding planted as-condition owed demand-broken gather
+  owed-since e k a = in-owed a ∙ append-nil _ ∙ ap₂ (λ (x y : Set). findings (for-names 32 (node-no i) (x ∖ y))) (sym e) (sym k)
+
+-- ---- the other kinds
+
+-- a predicate, a tp, a call, a sigil, and no condition
+abbrev no-child-kinds : List ℕ
+no-child-kinds = 8 ∷ 10 ∷ 11 ∷ 12 ∷ 13 ∷ 14 ∷ 15 ∷ 16 ∷ 17 ∷ 18 ∷ 19 ∷ 20 ∷ 21 ∷ 22 ∷ 23 ∷ 24 ∷ 25 ∷ 26 ∷ 27 ∷ 28 ∷ []
+
+no-child : (ties : Set) (t : ℕ → Tree) (n : NodeNo) (m : Node) → OneOf no-child-kinds (tagOf the-type m) → below-it (as-condition (planted t n m)) ties ≡ []
+unfolding below-it demand-below gather
+no-child ties t n =
+    condition-cases t n (λ m z. OneOf no-child-kinds (tagOf the-type m) → below-it z ties ≡ [])
+    (λ l r h. absurd (miss no-child-kinds 0 tt h)) (λ l r h. absurd (miss no-child-kinds 1 tt h)) (λ b h. absurd (miss no-child-kinds 2 tt h))
+    (λ b w h. absurd (miss no-child-kinds 3 tt h)) (λ b w h. absurd (miss no-child-kinds 4 tt h)) (λ l r w h. absurd (miss no-child-kinds 5 tt h))
+    (λ s y b h. absurd (miss no-child-kinds 6 tt h)) (λ o l r h. absurd (miss no-child-kinds 7 tt h)) (λ a l h. refl)
+    (λ b l h. absurd (miss no-child-kinds 9 tt h)) (λ s h. refl) (λ y h. refl) (λ y h. refl) (λ m e h. refl)
+
+pub below-none : (ties : Set) {bytes starts : List ℕ} {i : ℕ} {m : Node} → Arm bytes starts i m → OneOf no-child-kinds (tagOf the-type m)
+    → below-it (condition-of bytes i) ties ≡ []
+below-none ties a h = in-below ties a ∙ no-child ties _ _ _ h
+
+-- all but Not, Since and a comparison
+abbrev no-demand-kinds : List ℕ
+no-demand-kinds = 0 ∷ 1 ∷ 3 ∷ 4 ∷ 6 ∷ 8 ∷ 9 ∷ 10 ∷ 11 ∷ 12 ∷ 13 ∷ 14 ∷ 15 ∷ 16 ∷ 17 ∷ 18 ∷ 19 ∷ 20 ∷ 21 ∷ 22 ∷ 23 ∷ 24 ∷ 25 ∷ 26 ∷ 27 ∷ 28 ∷ []
+
+no-demand : (ties : Set) (t : ℕ → Tree) (n : NodeNo) (m : Node) → OneOf no-demand-kinds (tagOf the-type m) → owed (as-condition (planted t n m)) ties ≡ []
+unfolding owed demand-broken gather
+no-demand ties t n =
+    condition-cases t n (λ m z. OneOf no-demand-kinds (tagOf the-type m) → owed z ties ≡ [])
+    (λ l r h. refl) (λ l r h. refl) (λ b h. absurd (miss no-demand-kinds 2 tt h)) (λ b w h. refl) (λ b w h. refl)
+    (λ l r w h. absurd (miss no-demand-kinds 5 tt h)) (λ s y b h. refl) (λ o l r h. absurd (miss no-demand-kinds 7 tt h)) (λ a l h. refl)
+    (λ b l h. refl) (λ s h. refl) (λ y h. refl) (λ y h. refl) (λ m e h. refl)
+
+pub owed-none : (ties : Set) {bytes starts : List ℕ} {i : ℕ} {m : Node} → Arm bytes starts i m → OneOf no-demand-kinds (tagOf the-type m)
+    → owed (condition-of bytes i) ties ≡ []
+owed-none ties a h = in-owed ties a ∙ no-demand ties _ _ _ h
+
+-- neither arithmetic nor an aggregate with a body
+abbrev no-body-kinds : List ℕ
+no-body-kinds = 0 ∷ 1 ∷ 2 ∷ 3 ∷ 4 ∷ 5 ∷ 6 ∷ 7 ∷ 8 ∷ 9 ∷ 10 ∷ 11 ∷ 12 ∷ 13 ∷ 14 ∷ 15 ∷ 16 ∷ 17 ∷ 18 ∷ 19 ∷ 20 ∷ 24 ∷ 25 ∷ 26 ∷ 27 ∷ 28 ∷ []
+
+no-body : (ties : Set) (t : ℕ → Tree) (n : NodeNo) (m : Node) → OneOf no-body-kinds (tagOf the-type m) → demanded true (operand (as-term (planted t n m))) ties ≡ []
+unfolding demanded demand-below demand-broken gather
+no-body ties t n =
+    term-cases t n (λ m z. OneOf no-body-kinds (tagOf the-type m) → demanded true (operand z) ties ≡ [])
+    (λ x h. at-operand _ ties) (λ h. at-operand _ ties) (λ y h. at-operand _ ties) (λ y h. at-operand _ ties) (λ y h. at-operand _ ties)
+    (λ k h. at-operand _ ties) (λ k h. at-operand _ ties) (λ l h. at-operand _ ties) (λ o l r h. absurd (miss no-body-kinds 21 tt h))
+    (λ s l b h. absurd (miss no-body-kinds 22 tt h)) (λ l b h. absurd (miss no-body-kinds 23 tt h)) (λ y h. at-operand _ ties)
+    (λ m e h. at-operand _ ties)
+
+pub operand-none : (ties : Set) {bytes starts : List ℕ} {i : ℕ} {m : Node} → Arm bytes starts i m → OneOf no-body-kinds (tagOf the-type m)
+    → demanded true (operand (term-of bytes i)) ties ≡ []
+operand-none ties a h = in-operand ties a ∙ no-body ties _ _ _ h

@@ -1,0 +1,25 @@
+-- The entries of demands from a place on, and those of one condition. Assumes nothing: these are definitions.
+use mathlib.Core.Bool.{Bool}
+use mathlib.Core.List.{List}
+use Rattle.paper.specs.declared.NodeNo.{NodeNo}
+use Rattle.paper.specs.declared.Finding.{Finding}
+use Rattle.paper.specs.declared.Tied.{Tied}
+use Rattle.paper.specs.declared.Tied.the-variants.{Left, Right, Neither}
+use Rattle.paper.specs.Sets.{Set, _∪_, _∖_}
+use Rattle.paper.specs.Tree.{Condition}
+use Rattle.paper.specs.Places.{Spot, condition, asked-at, for-names, gather, findings, found}
+use Rattle.paper.specs.Demands.{demand-below, demand-broken}
+
+-- whether the place is asked, what stands there, and what is tied
+unfoldable pub demanded : Bool → Spot → Set → List Finding
+demanded asked s tied = found demand-below demand-broken (record { spot = s; names = tied; asked = asked })
+
+-- a condition's own entries, where it is asked
+unfoldable pub owed : Condition → Set → List Finding
+owed c tied = gather findings (demand-broken (asked-at (condition c) tied))
+
+-- a comparison's own entries: by the side that it ties, from the free names of both sides
+unfoldable pub owed-compared : NodeNo → Tied → Set → Set → Set → List Finding
+owed-compared n (Left x) left right tied = findings (for-names 30 n (right ∖ tied))
+owed-compared n (Right x) left right tied = findings (for-names 30 n (left ∖ tied))
+owed-compared n Neither left right tied = findings (for-names 31 n ((left ∪ right) ∖ tied))

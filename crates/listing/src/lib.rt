@@ -1,0 +1,51 @@
+// The three parts of the list, one after the other.
+use demands::check_chain;
+use free::collect_free;
+use names::Names;
+use paper::NodeNo;
+use scoping::check_condition;
+use sigils::body_has_sigil;
+use writes::emit;
+ghost use Rattle.names.specs.Words.{mem};
+ghost use Rattle.record.specs.Stored.{Has};
+ghost use Rattle.trees.specs.Trees.{condition-of};
+ghost use Rattle.writes.specs.Written.{Room, Wrote};
+ghost use Rattle.listing.specs.Parts.{demands-of, listed};
+
+// 30 to 32; none if the condition holds a sigil.
+pub fn check_demands(
+    bytes: &[u8],
+    starts: &[u16; 512],
+    i: NodeNo,
+    out: &mut [u32],
+    at: usize,
+) -> usize
+    requires { ⌜ Has (now bytes) (now starts) (i .0) ⌝ }
+    requires { ⌜ Room (demands-of (condition-of (now bytes) (i .0))) at ⌝ }
+    ensures { λ r. ⌜ Wrote (demands-of (condition-of (now (bytes .entry)) (i .0))) at r (now (out .entry)) (now (out .exit)) ⌝ }
+{
+    if body_has_sigil(bytes, starts, i) {
+        return at;
+    }
+    let tied = names::empty();
+    check_chain(bytes, starts, i, tied, true, out, at)
+}
+
+// 20 to 27 with nothing in scope, then 28, then 30 to 32.
+pub fn write_list(
+    bytes: &[u8],
+    starts: &[u16; 512],
+    i: NodeNo,
+    words: Names,
+    out: &mut [u32],
+) -> usize
+    requires { ⌜ Has (now bytes) (now starts) (i .0) ⌝ }
+    requires { ⌜ Room (listed (mem words) i (condition-of (now bytes) (i .0))) 0 ⌝ }
+    ensures { λ r. ⌜ Wrote (listed (mem words) i (condition-of (now (bytes .entry)) (i .0))) 0 r (now (out .entry)) (now (out .exit)) ⌝ }
+{
+    let scope = names::empty();
+    let open = collect_free(bytes, starts, i);
+    let p = check_condition(bytes, starts, i, scope, words, out, 0);
+    let q = emit(out, p, 28, i, open);
+    check_demands(bytes, starts, i, out, q)
+}

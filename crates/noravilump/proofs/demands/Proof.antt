@@ -1,0 +1,29 @@
+-- `demands` answers as the definitions do, for all bytes.
+use mathlib.Core.Path.{sym, ap, _∙_}
+use borrow.Author.Needs.{needs}
+use Rattle.noravilump.specs.Passed.{answer-passed}
+use Rattle.noravilump.proofs.Asked.{demands-refused, some-root, has-root, demands-room, demands-told}
+use Rattle.noravilump.proofs.demands.Statement.{statement}
+use Rattle.noravilump.proofs.demands.Tie as tie
+
+returns : tie.Need-returns
+unfolding answer-passed
+returns c =
+    let refusal = c .before .enum-told .given .1 in
+    c .passed-answer .ensures ∙ ap answer-passed refusal ∙ sym (demands-refused _ _ (c .before .before .before .before .read .ensures) refusal)
+
+pub demands-spec : {M : Type 1} → statement M
+demands-spec =
+    tie.close
+    (tie.spec
+    (λ c κs. search needs)
+    (λ c. search needs)
+    (λ c. search needs)
+    (λ c κs. search needs)
+    returns
+    (λ c κs. some-root _ _ (c .before .before .before .before .before .before .read .ensures) (c .before .before .before .v .given .1))
+    (λ c. search needs)
+    (λ c κs. (has-root _ _ (c .before .before .before .before .before .before .before .before .read .ensures) (c .before .before .before .before .before .v .given .1) _ (c .before .root .ensures), demands-room _ _ (c .before .before .before .before .before .before .before .before .read .ensures) (c .before .before .before .before .before .v .given .1) _ (c .before .root .ensures)))
+    (λ c. search needs)
+    (λ c κs. search needs)
+    (λ c. c .first .ensures ∙ demands-told _ _ (c .before .before .before .before .before .before .before .before .before .before .before .read .ensures) (c .before .before .before .before .before .before .before .before .v .given .1) _ (c .before .before .before .before .root .ensures) (c .before .before .check-demands .ensures)))

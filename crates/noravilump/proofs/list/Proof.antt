@@ -1,0 +1,32 @@
+-- `list` answers as the definitions do, and leaves in the buffer what they say, for all bytes and every buffer.
+use mathlib.Core.Path.{_≡_, sym, ap, _∙_}
+use borrow.Author.Needs.{needs}
+use Rattle.writes.proofs.WriteLaws.{wrote-length}
+use Rattle.noravilump.specs.Passed.{listing-passed}
+use Rattle.noravilump.proofs.Asked.{list-refused, some-root, has-root, list-room, list-without-room, list-with-room}
+use Rattle.noravilump.proofs.list.Statement.{statement}
+use Rattle.noravilump.proofs.list.Tie as tie
+
+returns : tie.Need-returns
+unfolding listing-passed
+returns c =
+    let refusal = c .before .enum-told .given .1 in
+    let l = list-refused _ _ (c .before .before .before .before .read .ensures) refusal _ in
+    (c .passed-listing .ensures ∙ ap listing-passed refusal ∙ sym (l .0), sym (l .1))
+
+pub list-spec : {M : Type 1} → statement M
+list-spec =
+    tie.close
+    (tie.spec
+    (λ c κs. search needs)
+    (λ c. search needs)
+    (λ c. search needs)
+    (λ c κs. search needs)
+    returns
+    (λ c κs. some-root _ _ (c .before .before .before .before .read .ensures) (c .before .v .given .1))
+    (λ c. search needs)
+    (λ c κs. (has-root _ _ (c .before .before .before .before .before .before .before .before .before .read .ensures) (c .before .before .before .before .before .before .v .given .1) _ (c .before .before .before .before .root .ensures), list-room _ _ (c .before .before .before .before .before .before .before .before .before .read .ensures) (c .before .before .before .before .before .before .v .given .1) _ (c .before .before .before .before .root .ensures)))
+    (λ c. let l = list-without-room _ _ (c .before .before .before .before .before .before .before .before .before .before .before .before .read .ensures) (c .before .before .before .before .before .before .before .before .before .v .given .1) _ (c .before .before .before .before .before .before .before .root .ensures) (c .before .before .write-list .ensures) _ (c .if1 .taken) in (sym (l .0), sym (l .1)))
+    (λ c κs. (has-root _ _ (c .before .before .before .before .before .before .before .before .before .before .before .before .before .before .before .before .read .ensures) (c .before .before .before .before .before .before .before .before .before .before .before .before .before .v .given .1) _ (c .before .before .before .before .before .before .before .before .before .before .before .root .ensures), list-room _ _ (c .before .before .before .before .before .before .before .before .before .before .before .before .before .before .before .before .read .ensures) (c .before .before .before .before .before .before .before .before .before .before .before .before .before .v .given .1) _ (c .before .before .before .before .before .before .before .before .before .before .before .root .ensures)))
+    (λ c. search needs)
+    (λ c. list-with-room _ _ (c .before .before .before .before .before .before .before .before .before .before .before .before .before .before .before .before .before .before .before .read .ensures) (c .before .before .before .before .before .before .before .before .before .before .before .before .before .before .before .before .v .given .1) _ (c .before .before .before .before .before .before .before .before .before .before .before .before .before .before .root .ensures) (c .before .before .before .before .before .before .before .before .before .write-list .ensures) _ (c .before .before .before .before .before .before .before .if1 .left) (c .before .before .write-list2 .ensures)))
