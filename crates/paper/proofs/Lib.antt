@@ -16,7 +16,6 @@ pub mod Sane
 pub mod SanePlaces
 pub mod Fitting
 pub mod Seed
-pub mod CellNames
 pub mod Once
 pub mod Parts
 pub mod Answers

@@ -36,11 +36,12 @@ use Rattle.paper.specs.TheList.{the-list, name-or-255, pack, packed}
 use Rattle.paper.proofs.Ascending.{asc-map}
 use Rattle.paper.proofs.Entries.{members-get, members-asc}
 use Rattle.paper.proofs.Walks.{All, extent, within, found-at}
-use Rattle.paper.proofs.Exact.{extent-pos, scope-shrinks, demand-shrinks}
+use Rattle.paper.proofs.Exact.{at, extent-pos, scope-shrinks, demand-shrinks}
 use Rattle.paper.proofs.Weights.{weigh, weigh-term, weigh-arguments, weigh-items, weigh-binders}
 use Rattle.paper.proofs.Forests.{sum}
-use Rattle.paper.proofs.WellFormed.{WellFormed}
-use Rattle.paper.proofs.CellNames.{BindersKnown, CellsKnown, OperandKnown, cells-known}
+use Rattle.paper.proofs.WellFormed.{WellFormed, all-both}
+use Rattle.paper.proofs.Sane.{SaneBinders, sane-any}
+use Rattle.paper.proofs.SanePlaces.{SanePlace, scope-below-sane, demand-below-sane}
 
 -- each stands once
 abbrev pub Distinct : List ℕ → Type 0
@@ -136,13 +137,6 @@ weigh-spot (searched t) w = weigh-term t w
 weigh-spot (searched-arguments l) w = weigh-arguments l w
 weigh-spot (searched-items l) w = weigh-items l w
 
-abbrev SpotKnown : Spot → Type 0
-SpotKnown (condition c) = CellsKnown c
-SpotKnown (operand t) = OperandKnown t
-SpotKnown (searched t) = Unit {0}
-SpotKnown (searched-arguments l) = Unit {0}
-SpotKnown (searched-items l) = Unit {0}
-
 -- ---- what a number says of a node
 
 module _ (v : ℕ) where
@@ -237,16 +231,16 @@ module _ (v : ℕ) where
       go true = often-one rule (c .node) (Name (c .name)) (unfold name-or-255 in omega arith)
       go false = omega arith
 
-  often-cells : (rule : ℕ) (s : Set) (l : Binders) → BindersKnown l → often (findings (at-cells rule s (cells l))) ≤ weigh-binders l (own rule)
+  often-cells : (rule : ℕ) (s : Set) (l : Binders) → SaneBinders 512 128 l → often (findings (at-cells rule s (cells l))) ≤ weigh-binders l (own rule)
   unfolding findings gather cells cell-of weigh
   often-cells rule s (no-binder n) h = omega arith
   often-cells rule s (binder n (slot.Name x) y l) h =
-      let z = often-cells rule s l (h .1) in
-      let c = often-cell rule s (record { node = n; name = x }) (h .0 .0) in
+      let z = often-cells rule s l (h .2) in
+      let c = often-cell rule s (record { node = n; name = x }) (h .1 .0) in
       let d = often-append (at-cell rule s (record { node = n; name = x })) (findings (at-cells rule s (cells l))) in
       omega arith
-  often-cells rule s (binder n (slot.Param k) y l) h = let z = often-cells rule s l (h .1) in omega arith
-  often-cells rule s (binder n (slot.Binder k) y l) h = let z = often-cells rule s l (h .1) in omega arith
+  often-cells rule s (binder n (slot.Param k) y l) h = let z = often-cells rule s l (h .2) in omega arith
+  often-cells rule s (binder n (slot.Binder k) y l) h = let z = often-cells rule s l (h .2) in omega arith
 
   -- what is broken at a place
   abbrev tally : List Broken → ℕ
@@ -265,31 +259,32 @@ module _ (v : ℕ) where
     load [] = 0
     load (q ∷ qs) = weigh-spot (q .spot) w + load qs
 
-    -- what is asked of a walk at a place: the names of the cells below are known, and the number is broken there no more often than the place outweighs those below
+    -- what is asked of a walk at a place: the number is broken there no more often than the place outweighs those below
     abbrev Light : (Place → List Place) → (Place → List Broken) → Place → Type 0
-    Light below broken p = All (λ q. SpotKnown (q .spot)) (below p) × (tally (broken p) + load (below p) ≤ weigh-spot (p .spot) w)
+    Light below broken p = tally (broken p) + load (below p) ≤ weigh-spot (p .spot) w
 
-    light-below : (f : Place → List Finding) (qs : List Place) → All (λ q. SpotKnown (q .spot) → often (f q) ≤ weigh-spot (q .spot) w) qs
-        → All (λ q. SpotKnown (q .spot)) qs → often (gather f qs) ≤ load qs
+    light-below : (f : Place → List Finding) (qs : List Place) → All (λ q. often (f q) ≤ weigh-spot (q .spot) w) qs → often (gather f qs) ≤ load qs
     unfolding gather
-    light-below f [] a h = omega arith
-    light-below f (q ∷ qs) a h =
+    light-below f [] a = omega arith
+    light-below f (q ∷ qs) a =
         let x = often-append (f q) (gather f qs) in
-        let y = a .0 (h .0) in
-        let z = light-below f qs (a .1) (h .1) in
+        let y = a .0 in
+        let z = light-below f qs (a .1) in
         omega arith
 
     light-walk : (below : Place → List Place) (broken : Place → List Broken) → ((p : Place) → All (λ q. extent q < extent p) (below p))
-        → ((p : Place) → SpotKnown (p .spot) → Light below broken p)
-        → (p : Place) → SpotKnown (p .spot) → often (found below broken p) ≤ weigh-spot (p .spot) w
-    light-walk below broken shrinks light p =
-        within below broken extent-pos shrinks (λ q. SpotKnown (q .spot) → often (found below broken q) ≤ weigh-spot (q .spot) w)
+        → ((p : Place) → SanePlace 512 128 p → All (SanePlace 512 128) (below p)) → ((p : Place) → SanePlace 512 128 p → Light below broken p)
+        → (p : Place) → SanePlace 512 128 p → often (found below broken p) ≤ weigh-spot (p .spot) w
+    light-walk below broken shrinks goes-down light p =
+        within below broken extent-pos shrinks (λ q. SanePlace 512 128 q → often (found below broken q) ≤ weigh-spot (q .spot) w)
         (λ q a h.
-        let l = light q h in
         let x = ap often (found-at below broken extent-pos shrinks q) ∙ often-append (gather findings (broken q)) (gather (found below broken) (below q)) in
         let t = often-broken (broken q) in
-        let y = light-below (found below broken) (below q) a (l .0) in
-        let z = l .1 in
+        let y =
+        light-below (found below broken) (below q)
+        (all-both (λ r. SanePlace 512 128 r → often (found below broken r) ≤ weigh-spot (r .spot) w) (SanePlace 512 128)
+        (λ r. often (found below broken r) ≤ weigh-spot (r .spot) w) (λ r f k. f k) (below q) a (goes-down q h)) in
+        let z = light q h in
         omega arith)
         (extent p) p (omega arith)
 
@@ -304,65 +299,61 @@ module _ (v : ℕ) where
   binders-light (no-binder n) = let z = scoped-is (n .0) in omega arith
   binders-light (binder n s y l) = let z = scoped-is (n .0) in let y = binders-light l in omega arith
 
-  aggregate-light : (skipped : Bool) (words summed unbound unfree loose scope : Set) (n : NodeNo) (l : Binders) (b : Condition) → BindersKnown l → CellsKnown b
-      → All (λ q. SpotKnown (q .spot)) (pick skipped [] (asked-at (condition b) scope ∷ []))
-      × (tally
+  aggregate-light : (skipped : Bool) (words summed unbound unfree loose scope : Set) (n : NodeNo) (l : Binders) (b : Condition) → SaneBinders 512 128 l
+      → tally
       (pick skipped []
       (at-cells 22 words (cells l) ∷ for-names 24 n summed ∷ for-names 25 n unbound ∷ at-cells 26 unfree (cells l) ∷ at-cells 27 loose (cells l) ∷ []))
       + load scoped (pick skipped [] (asked-at (condition b) scope ∷ []))
-      ≤ scoped (n .0) + (weigh-binders l scoped + weigh b scoped))
-  aggregate-light true words summed unbound unfree loose scope n l b h k = (tt, omega arith)
-  aggregate-light false words summed unbound unfree loose scope n l b h k = (
-    (k, tt),
-    omega (
-      arith,
-      often-cells 22 words l h,
-      often-names 24 n summed,
-      often-names 25 n unbound,
-      often-cells 26 unfree l h,
-      often-cells 27 loose l h,
-      scoped-is (n .0),
-      binders-light l,
-    ),
-  )
+      ≤ scoped (n .0) + (weigh-binders l scoped + weigh b scoped)
+  aggregate-light true words summed unbound unfree loose scope n l b h = omega arith
+  aggregate-light false words summed unbound unfree loose scope n l b h =
+      omega (
+        arith,
+        often-cells 22 words l h,
+        often-names 24 n summed,
+        often-names 25 n unbound,
+        often-cells 26 unfree l h,
+        often-cells 27 loose l h,
+        scoped-is (n .0),
+        binders-light l,
+      )
 
-  scope-light : (words : Set) (s : Spot) (names : Set) (asked : Bool) → SpotKnown s
-      → Light scoped scope-below (scope-broken words) (record { spot = s; names = names; asked = asked })
+  scope-light : (words : Set) (s : Spot) (names : Set) (asked : Bool) → SanePlace 512 128 (at s names asked)
+      → Light scoped scope-below (scope-broken words) (at s names asked)
   unfolding scope-below scope-broken weigh
-  scope-light words (condition (And n l r)) s a h = ((h .0, (h .1, tt)), omega arith)
-  scope-light words (condition (Or n l r)) s a h = ((h .0, (h .1, tt)), omega arith)
-  scope-light words (condition (Not n b)) s a h = ((h, tt), omega arith)
-  scope-light words (condition (Past n k b x)) s a h = ((h, tt), omega arith)
-  scope-light words (condition (Since n l r x)) s a h = ((h .0, (h .1, tt)), omega arith)
-  scope-light words (condition (Exists n v y b)) s a h =
-      ((h, tt), omega (arith, scoped-is (n .0), often-names 22 n (named v ∩ words), often-names 23 n (pick (holds-sigil b) none (named v ∖ restricted b))))
-  scope-light words (condition (Comparison n o l r)) s a h = ((h .0, (h .1, tt)), omega arith)
-  scope-light words (condition (Predicate n y l)) s a h = ((tt, tt), omega arith)
-  scope-light words (condition (Refine n b l)) s a h = ((h, tt), omega arith)
-  scope-light words (condition (Tp n v)) s a h = (tt, omega (arith, scoped-is (n .0), often-names 22 n (named v ∩ words)))
-  scope-light words (condition (Opaque n k y)) s a h = (tt, omega arith)
-  scope-light words (operand (Var n x)) s a h = (tt, omega arith)
-  scope-light words (operand (Wildcard n)) s a h = (tt, omega arith)
-  scope-light words (operand (Value n k y)) s a h = (tt, omega arith)
-  scope-light words (operand (Sigil n k i)) s a h = (tt, omega arith)
-  scope-light words (operand (Array n l)) s a h = ((tt, tt), omega arith)
-  scope-light words (operand (Arith n o l r)) s a h = ((h .0, (h .1, tt)), omega arith)
-  scope-light words (operand (Sum n v l b)) s a h = aggregate-light (is-sigil v || binder-sigil l) words _ _ _ _ _ n l b (h .0) (h .1)
-  scope-light words (operand (Count n l b)) s a h = aggregate-light (false || binder-sigil l) words _ _ _ _ _ n l b (h .0) (h .1)
-  scope-light words (operand (AggregateCall n y)) s a h = (tt, omega arith)
-  scope-light words (searched (Var n x)) s a h = (tt, omega arith)
-  scope-light words (searched (Wildcard n)) s a h = (tt, omega arith)
-  scope-light words (searched (Value n k y)) s a h = (tt, omega arith)
-  scope-light words (searched (Sigil n k i)) s a h = (tt, omega arith)
-  scope-light words (searched (Array n l)) s a h = ((tt, tt), omega arith)
-  scope-light words (searched (Arith n o l r)) s a h = (tt, omega (arith, scoped-is (n .0), often-itself 21 n))
-  scope-light words (searched (Sum n v l b)) s a h = (tt, omega (arith, scoped-is (n .0), often-itself 20 n))
-  scope-light words (searched (Count n l b)) s a h = (tt, omega (arith, scoped-is (n .0), often-itself 20 n))
-  scope-light words (searched (AggregateCall n y)) s a h = (tt, omega (arith, scoped-is (n .0), often-itself 20 n))
-  scope-light words (searched-arguments (no-argument n)) s a h = (tt, omega arith)
-  scope-light words (searched-arguments (argument n f t l)) s a h = ((tt, (tt, tt)), omega arith)
-  scope-light words (searched-items (no-item n)) s a h = (tt, omega arith)
-  scope-light words (searched-items (item n t l)) s a h = ((tt, (tt, tt)), omega arith)
+  scope-light words (condition (And n l r)) s a h = omega arith
+  scope-light words (condition (Or n l r)) s a h = omega arith
+  scope-light words (condition (Not n b)) s a h = omega arith
+  scope-light words (condition (Past n k b x)) s a h = omega arith
+  scope-light words (condition (Since n l r x)) s a h = omega arith
+  scope-light words (condition (Exists n v y b)) s a h = omega (arith, scoped-is (n .0), often-names 22 n (named v ∩ words), often-names 23 n (pick (holds-sigil b) none (named v ∖ restricted b)))
+  scope-light words (condition (Comparison n o l r)) s a h = omega arith
+  scope-light words (condition (Predicate n y l)) s a h = omega arith
+  scope-light words (condition (Refine n b l)) s a h = omega arith
+  scope-light words (condition (Tp n v)) s a h = omega (arith, scoped-is (n .0), often-names 22 n (named v ∩ words))
+  scope-light words (condition (Opaque n k y)) s a h = omega arith
+  scope-light words (operand (Var n x)) s a h = omega arith
+  scope-light words (operand (Wildcard n)) s a h = omega arith
+  scope-light words (operand (Value n k y)) s a h = omega arith
+  scope-light words (operand (Sigil n k i)) s a h = omega arith
+  scope-light words (operand (Array n l)) s a h = omega arith
+  scope-light words (operand (Arith n o l r)) s a h = omega arith
+  scope-light words (operand (Sum n v l b)) s a h = aggregate-light (is-sigil v || binder-sigil l) words _ _ _ _ _ n l b (h .2)
+  scope-light words (operand (Count n l b)) s a h = aggregate-light (false || binder-sigil l) words _ _ _ _ _ n l b (h .1)
+  scope-light words (operand (AggregateCall n y)) s a h = omega arith
+  scope-light words (searched (Var n x)) s a h = omega arith
+  scope-light words (searched (Wildcard n)) s a h = omega arith
+  scope-light words (searched (Value n k y)) s a h = omega arith
+  scope-light words (searched (Sigil n k i)) s a h = omega arith
+  scope-light words (searched (Array n l)) s a h = omega arith
+  scope-light words (searched (Arith n o l r)) s a h = omega (arith, scoped-is (n .0), often-itself 21 n)
+  scope-light words (searched (Sum n v l b)) s a h = omega (arith, scoped-is (n .0), often-itself 20 n)
+  scope-light words (searched (Count n l b)) s a h = omega (arith, scoped-is (n .0), often-itself 20 n)
+  scope-light words (searched (AggregateCall n y)) s a h = omega (arith, scoped-is (n .0), often-itself 20 n)
+  scope-light words (searched-arguments (no-argument n)) s a h = omega arith
+  scope-light words (searched-arguments (argument n f t l)) s a h = omega arith
+  scope-light words (searched-items (no-item n)) s a h = omega arith
+  scope-light words (searched-items (item n t l)) s a h = omega arith
 
   -- ---- demands
 
@@ -375,41 +366,37 @@ module _ (v : ℕ) where
   comparison-light n l r ties (Right x) = omega (arith, demanded-is (n .0), often-names 30 n (term-free l ∖ ties))
   comparison-light n l r ties Neither = omega (arith, demanded-is (n .0), often-names 31 n ((term-free l ∪ term-free r) ∖ ties))
 
-  asked-light : (s : Spot) (names : Set) → SpotKnown s → Light demanded demand-below demand-broken (asked-at s names)
+  asked-light : (s : Spot) (names : Set) → Light demanded demand-below demand-broken (asked-at s names)
   unfolding demand-below demand-broken weigh
-  asked-light (condition (And n l r)) s h = ((h .0, (h .1, tt)), omega arith)
-  asked-light (condition (Or n l r)) s h = ((h .0, (h .1, tt)), omega arith)
-  asked-light (condition (Not n b)) s h =
-      ((h, tt), omega (arith, demanded-is (n .0), often-names 31 n (free b ∖ s)))
-  asked-light (condition (Past n k b x)) s h = ((h, tt), omega arith)
-  asked-light (condition (Since n l r x)) s h =
-      ((h .0, (h .1, tt)), omega (arith, demanded-is (n .0), often-names 32 n (free l ∖ (s ∪ restricted r))))
-  asked-light (condition (Exists n v y b)) s h = ((h, tt), omega arith)
-  asked-light (condition (Comparison n o l r)) s h =
-      ((h .0, (h .1, tt)), omega (arith, comparison-light n l r s (tied o l r)))
-  asked-light (condition (Predicate n y l)) s h = (tt, omega arith)
-  asked-light (condition (Refine n b l)) s h = ((h, tt), omega arith)
-  asked-light (condition (Tp n v)) s h = (tt, omega arith)
-  asked-light (condition (Opaque n k y)) s h = (tt, omega arith)
-  asked-light (operand (Var n x)) s h = (tt, omega arith)
-  asked-light (operand (Wildcard n)) s h = (tt, omega arith)
-  asked-light (operand (Value n k y)) s h = (tt, omega arith)
-  asked-light (operand (Sigil n k i)) s h = (tt, omega arith)
-  asked-light (operand (Array n l)) s h = (tt, omega arith)
-  asked-light (operand (Arith n o l r)) s h = ((h .0, (h .1, tt)), omega arith)
-  asked-light (operand (Sum n v l b)) s h = ((h .1, tt), omega arith)
-  asked-light (operand (Count n l b)) s h = ((h .1, tt), omega arith)
-  asked-light (operand (AggregateCall n y)) s h = (tt, omega arith)
-  asked-light (searched t) s h = (tt, omega arith)
-  asked-light (searched-arguments l) s h = (tt, omega arith)
-  asked-light (searched-items l) s h = (tt, omega arith)
+  asked-light (condition (And n l r)) s = omega arith
+  asked-light (condition (Or n l r)) s = omega arith
+  asked-light (condition (Not n b)) s = omega (arith, demanded-is (n .0), often-names 31 n (free b ∖ s))
+  asked-light (condition (Past n k b x)) s = omega arith
+  asked-light (condition (Since n l r x)) s = omega (arith, demanded-is (n .0), often-names 32 n (free l ∖ (s ∪ restricted r)))
+  asked-light (condition (Exists n v y b)) s = omega arith
+  asked-light (condition (Comparison n o l r)) s = omega (arith, comparison-light n l r s (tied o l r))
+  asked-light (condition (Predicate n y l)) s = omega arith
+  asked-light (condition (Refine n b l)) s = omega arith
+  asked-light (condition (Tp n v)) s = omega arith
+  asked-light (condition (Opaque n k y)) s = omega arith
+  asked-light (operand (Var n x)) s = omega arith
+  asked-light (operand (Wildcard n)) s = omega arith
+  asked-light (operand (Value n k y)) s = omega arith
+  asked-light (operand (Sigil n k i)) s = omega arith
+  asked-light (operand (Array n l)) s = omega arith
+  asked-light (operand (Arith n o l r)) s = omega arith
+  asked-light (operand (Sum n v l b)) s = omega arith
+  asked-light (operand (Count n l b)) s = omega arith
+  asked-light (operand (AggregateCall n y)) s = omega arith
+  asked-light (searched t) s = omega arith
+  asked-light (searched-arguments l) s = omega arith
+  asked-light (searched-items l) s = omega arith
 
   -- what is not asked breaks nothing
-  demand-light : (s : Spot) (names : Set) (asked : Bool) → SpotKnown s
-      → Light demanded demand-below demand-broken (record { spot = s; names = names; asked = asked })
+  demand-light : (s : Spot) (names : Set) (asked : Bool) → Light demanded demand-below demand-broken (at s names asked)
   unfolding demand-below demand-broken
-  demand-light s names true h = asked-light s names h
-  demand-light s names false h = let l = asked-light s names h in (l .0, omega (arith, l .1))
+  demand-light s names true = asked-light s names
+  demand-light s names false = omega (arith, asked-light s names)
 
   -- ---- the list
 
@@ -417,8 +404,8 @@ module _ (v : ℕ) where
   unfolding scoping-part
   scoping-light c f seed =
       subst (λ (m : ℕ). often (found scope-below (scope-broken (reserved (c .names))) (asked-at (condition (root c)) seed)) ≤ m) (f .whole scoped)
-      (light-walk scoped scope-below (scope-broken (reserved (c .names))) scope-shrinks
-      (λ p. scope-light (reserved (c .names)) (p .spot) (p .names) (p .asked)) (asked-at (condition (root c)) seed) (cells-known c f))
+      (light-walk scoped scope-below (scope-broken (reserved (c .names))) scope-shrinks (scope-below-sane 512 128)
+      (λ p. scope-light (reserved (c .names)) (p .spot) (p .names) (p .asked)) (asked-at (condition (root c)) seed) (sane-any c f))
 
   closedness-light : (c : Contents) → WellFormed c → often (closedness-part c) ≤ sum (own 28) (length (c .nodes))
   unfolding closedness-part closedness-broken root-no
@@ -436,8 +423,8 @@ module _ (v : ℕ) where
       go true = omega arith
       go false =
           subst (λ (m : ℕ). often (found demand-below demand-broken (asked-at (condition (root c)) none)) ≤ m) (f .whole demanded)
-          (light-walk demanded demand-below demand-broken demand-shrinks (λ p. demand-light (p .spot) (p .names) (p .asked))
-          (asked-at (condition (root c)) none) (cells-known c f))
+          (light-walk demanded demand-below demand-broken demand-shrinks (demand-below-sane 512 128) (λ p h. demand-light (p .spot) (p .names) (p .asked))
+          (asked-at (condition (root c)) none) (sane-any c f))
 
   list-light : (c : Contents) → WellFormed c → times v (packed c) ≤ 1
   unfolding packed the-list
