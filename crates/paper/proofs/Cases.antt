@@ -5,8 +5,7 @@ use Prim.Native.Nat.{ℕ, zero, suc, _+_, _*_, _/_, _%_}
 use Prim.Native.String.{String}
 use mathlib.Core.Path.{_≡_, refl}
 use mathlib.Core.List.{List, [], _∷_, _++_, map}
-use lib.ListN.{take, replicate}
-use lib.ListN.{length}
+use lib.ListN.{length, take, replicate}
 use Rattle.paper.specs.declared.Arithmetic.{Arithmetic}
 use Rattle.paper.specs.declared.Arithmetic.the-variants.{Yes, No}
 use Rattle.paper.specs.declared.Listing.{Listing}

@@ -23,7 +23,26 @@ use Rattle.paper.specs.Tree.Arguments.{no-argument, argument}
 use Rattle.paper.specs.Tree.Items.{no-item, item}
 use Rattle.paper.specs.Tree.Binders.{no-binder, binder}
 use Rattle.paper.specs.FreeAndRestricted.{is-sigil, tied, holds-sigil}
-use Rattle.paper.specs.Places.{Spot, condition, operand, searched, searched-arguments, searched-items, Place, asked-at, Cell, Broken, itself, for-names, at-cells, gather, at-cell, findings, spot-size, found}
+use Rattle.paper.specs.Places.{
+  Spot,
+  condition,
+  operand,
+  searched,
+  searched-arguments,
+  searched-items,
+  Place,
+  asked-at,
+  Cell,
+  Broken,
+  itself,
+  for-names,
+  at-cells,
+  gather,
+  at-cell,
+  findings,
+  spot-size,
+  found,
+}
 use Rattle.paper.specs.Scoping.{reserved, binder-sigil, cell-of, cells, scope-below, scope-broken, scoping-part}
 use Rattle.paper.specs.Demands.{closedness-broken, closedness-part, comparison-broken, demand-below, demand-broken, demands-part}
 use Rattle.paper.specs.TheList.{the-list}

@@ -11,6 +11,7 @@ pub mod Fields
 pub mod Weights
 pub mod Forests
 pub mod WellFormed
+pub mod EachFound
 pub mod Lengths
 pub mod Sane
 pub mod SanePlaces

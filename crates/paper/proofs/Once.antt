@@ -4,7 +4,22 @@
 use mathlib.Core.Path.{_≡_, refl, sym, ap, _∙_, subst}
 use mathlib.Core.Logic.{⊎-elim}
 use mathlib.Core.Bool.{Bool, true, false, _||_}
-use mathlib.Core.List.{List, [], _∷_, _++_, map, map-append, map-map, List·Memᴰ, List·Memᴰ·head, List·Memᴰ·tail, List·Memᴰ·not-nil, List·Memᴰ·cases-cons, List·Memᴰ·eq-of-singleton, Memᴰ·of-map}
+use mathlib.Core.List.{
+  List,
+  [],
+  _∷_,
+  _++_,
+  map,
+  map-append,
+  map-map,
+  List·Memᴰ,
+  List·Memᴰ·head,
+  List·Memᴰ·tail,
+  List·Memᴰ·not-nil,
+  List·Memᴰ·cases-cons,
+  List·Memᴰ·eq-of-singleton,
+  Memᴰ·of-map,
+}
 use Prim.Native.Nat.{ℕ, zero, suc, _+_, _*_, _-_, _/_, _<_, _≤_}
 use native.Mathlib.Omega.{arith}
 use native.Mathlib.Decide.{ℕ-discrete}
@@ -29,17 +44,36 @@ use Rattle.paper.specs.Tree.Arguments.{no-argument, argument}
 use Rattle.paper.specs.Tree.Items.{no-item, item}
 use Rattle.paper.specs.Tree.Binders.{no-binder, binder}
 use Rattle.paper.specs.FreeAndRestricted.{named, is-sigil, free, term-free, tied, restricted, holds-sigil}
-use Rattle.paper.specs.Places.{Spot, condition, operand, searched, searched-arguments, searched-items, Place, asked-at, Cell, Broken, itself, for-names, at-cells, Ascending, gather, at-cell, findings, found}
+use Rattle.paper.specs.Places.{
+  Spot,
+  condition,
+  operand,
+  searched,
+  searched-arguments,
+  searched-items,
+  Place,
+  asked-at,
+  Cell,
+  Broken,
+  itself,
+  for-names,
+  at-cells,
+  Ascending,
+  gather,
+  at-cell,
+  findings,
+  found,
+}
 use Rattle.paper.specs.Scoping.{reserved, binder-sigil, cell-of, cells, scope-below, scope-broken, scoping-part}
 use Rattle.paper.specs.Demands.{closedness-broken, closedness-part, comparison-broken, demand-below, demand-broken, demands-part}
 use Rattle.paper.specs.TheList.{the-list, name-or-255, pack, packed}
 use Rattle.paper.proofs.Ascending.{asc-map}
 use Rattle.paper.proofs.Entries.{members-get, members-asc}
-use Rattle.paper.proofs.Walks.{All, extent, within, found-at}
+use Rattle.paper.proofs.Walks.{All, all-both, extent, within, found-at}
 use Rattle.paper.proofs.Exact.{at, extent-pos, scope-shrinks, demand-shrinks}
 use Rattle.paper.proofs.Weights.{weigh, weigh-term, weigh-arguments, weigh-items, weigh-binders}
 use Rattle.paper.proofs.Forests.{sum}
-use Rattle.paper.proofs.WellFormed.{WellFormed, all-both}
+use Rattle.paper.proofs.WellFormed.{WellFormed}
 use Rattle.paper.proofs.Sane.{SaneBinders, sane-any}
 use Rattle.paper.proofs.SanePlaces.{SanePlace, scope-below-sane, demand-below-sane}
 

@@ -3,16 +3,53 @@
 --     found-at         it is what is broken at the place, and then what is found at each place below
 -- A walk has only to show that every place below is smaller, and that the rules broken at a place are named in their order. Assumes nothing.
 use mathlib.Core.Path.{_≡_, refl, sym, ap, ap₂, _∙_, subst}
-use mathlib.Core.Logic.{_⊎_, inl, inr, ⊎-elim}
+use mathlib.Core.Logic.{inl, inr, ⊎-elim}
 use mathlib.Core.Bool.{Bool, true, false}
-use mathlib.Core.List.{List, [], _∷_, _++_, map, map-append, map-map, List·Memᴰ, List·Memᴰ·not-nil, List·Memᴰ·append-cases, Memᴰ·append-left, Memᴰ·append-right, Memᴰ·cast, Memᴰ·map, Memᴰ·of-map}
+use mathlib.Core.List.{
+  List,
+  [],
+  _∷_,
+  _++_,
+  map,
+  map-append,
+  map-map,
+  List·Memᴰ,
+  List·Memᴰ·head,
+  List·Memᴰ·tail,
+  List·Memᴰ·not-nil,
+  List·Memᴰ·cases-cons,
+  List·Memᴰ·append-cases,
+  Memᴰ·append-left,
+  Memᴰ·append-right,
+  Memᴰ·cast,
+  Memᴰ·map,
+  Memᴰ·of-map,
+}
 use Prim.Native.Nat.{ℕ, zero, suc, _+_, _<_, _≤_}
 use native.Mathlib.Omega.{arith}
 use native.Mathlib.Nat.{add-zero}
 use lib.ListN.{getD}
 use Rattle.paper.specs.declared.Finding.{Finding}
 use Rattle.paper.specs.Record.{pick}
-use Rattle.paper.specs.Places.{Place, nowhere, place, Entry, Broken, Unmet, Before, Earlier, Located, Precedes, Ascending, Exactly, gather, findings, spot-size, found-within, found}
+use Rattle.paper.specs.Places.{
+  Place,
+  nowhere,
+  place,
+  Entry,
+  Broken,
+  Unmet,
+  Before,
+  Earlier,
+  Located,
+  Precedes,
+  Ascending,
+  Exactly,
+  gather,
+  findings,
+  spot-size,
+  found-within,
+  found,
+}
 use Rattle.paper.proofs.Ascending.{asc-append, asc-map}
 use Rattle.paper.proofs.Entries.{entries, entries-get, entries-put, gather-get, gather-put, ByRule, gather-asc, gather-findings}
 
@@ -49,6 +86,22 @@ all-map f (a ∷ l) p = (f a (p .0), all-map f l (p .1))
 pub all-unless : {A : Type 0} (C : A → Type 0) (b : Bool) (l : List A) → All C l → All C (pick b [] l)
 all-unless C true l a = tt
 all-unless C false l a = a
+
+pub all-both : {A : Type 0} (C D E : A → Type 0) → ((a : A) → C a → D a → E a) → (l : List A) → All C l → All D l → All E l
+all-both C D E f [] p q = tt
+all-both C D E f (a ∷ l) p q = (f a (p .0) (q .0), all-both C D E f l (p .1) (q .1))
+
+pub all-append : {A : Type 0} (C : A → Type 0) (l m : List A) → All C l → All C m → All C (l ++ m)
+all-append C [] m p q = q
+all-append C (a ∷ l) m p q = (p .0, all-append C l m (p .1) q)
+
+pub all-of : {A : Type 0} (C : A → Type 0) (l : List A) → ((a : A) → List·Memᴰ a l → C a) → All C l
+all-of C [] h = tt
+all-of C (a ∷ l) h = (h a (List·Memᴰ·head refl), all-of C l (λ b m. h b (List·Memᴰ·tail m)))
+
+pub all-at : {A : Type 0} (C : A → Type 0) (l : List A) (a : A) → All C l → List·Memᴰ a l → C a
+all-at C [] a h m = absurd (List·Memᴰ·not-nil m)
+all-at C (b ∷ l) a h m = ⊎-elim (λ (e : a ≡ b). subst C (sym e) (h .0)) (λ k. all-at C l a (h .1) k) (List·Memᴰ·cases-cons m)
 
 push-up : (k : ℕ) (a b : Located) → Precedes a b → Precedes (push k a) (push k b)
 push-up k a b h = ⊎-elim (λ p. inl (inr (refl, p))) (λ p. inr (ap (λ (z : List ℕ). k ∷ z) (p .0), p .1)) h
@@ -230,3 +283,15 @@ module _ (below : Place → List Place) (broken : Place → List Broken) where
         ∙ map-append finding-of (map here (own p)) (forest find 0 (below p))
         ∙ ap₂ {C = List Finding} _++_ (map-map finding-of here (own p) ∙ gather-findings (broken p))
         (forest-findings find (found below broken) (λ q. within-findings (extent q) q) 0 (below p))
+
+    -- what holds of all that is found from a place follows from what is broken there and what is found from each place below, where `Holds` goes down with the walk
+    pub found-by : (Holds : Place → Type 0) → ((p : Place) → Holds p → All Holds (below p)) → (C : Place → List Finding → Type 0)
+        → ((p : Place) → Holds p → All (λ q. C q (found below broken q)) (below p) → C p (gather findings (broken p) ++ gather (found below broken) (below p)))
+        → (p : Place) → Holds p → C p (found below broken p)
+    found-by Holds goes-down C step p =
+        within (λ q. Holds q → C q (found below broken q))
+        (λ q a h.
+        subst (C q) (sym (found-at q))
+        (step q h
+        (all-both (λ r. Holds r → C r (found below broken r)) Holds (λ r. C r (found below broken r)) (λ r f k. f k) (below q) a (goes-down q h))))
+        (extent p) p (omega arith)
