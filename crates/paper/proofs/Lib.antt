@@ -12,9 +12,10 @@ pub mod Weights
 pub mod Forests
 pub mod WellFormed
 pub mod EachFound
-pub mod Lengths
 pub mod Sane
 pub mod SanePlaces
+pub mod Tallies
+pub mod Lengths
 pub mod Fitting
 pub mod Seed
 pub mod Once

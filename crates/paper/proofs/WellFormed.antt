@@ -6,6 +6,7 @@ use mathlib.Core.List.{List, [], _∷_, _++_, map, map-append}
 use Prim.Native.Nat.{ℕ, zero, suc, _+_, _-_, _<_, _≤_}
 use native.Mathlib.Omega.{arith}
 use native.Mathlib.Decide.{decLt}
+use native.Mathlib.Nat.{mul-one}
 use native.Mathlib.Numerals.{add-one}
 use lib.Dec.{eqb, ltb}
 use lib.ListN.{length, getD, drop, length-append, List·getD-append, length-map}
@@ -22,7 +23,7 @@ use Rattle.paper.proofs.Walks.{All, all-map, all-both}
 use Rattle.paper.proofs.Runs.{Went, went-format, went-name, went-node, seen-node, last-of, taken, Closed, closed, accepted-keeps}
 use Rattle.paper.proofs.Fields.{New, Into, says, for-sort, Passed, passed, field-references}
 use Rattle.paper.proofs.Weights.{weigh, one, size-weighs, tree-weight, weight-as, of-sort, at-home, total, planted-weighs}
-use Rattle.paper.proofs.Forests.{tree-step, tree-more, trees-more, sum, spare, spare-same, spare-last, weight-at, Home, new-total}
+use Rattle.paper.proofs.Forests.{tree-step, tree-more, trees-more, sum, sum-same, spare, spare-same, spare-last, weight-at, Home, new-total}
 
 abbrev said : List Seen → List Node
 said nodes = map (λ (s : Seen). s .node) nodes
@@ -368,14 +369,9 @@ well-formed bytes c e =
 
 -- ---- in particular
 
-sum-one : (n : ℕ) → sum one n ≡ n
-unfolding sum
-sum-one zero = refl
-sum-one (suc n) = ap (λ (z : ℕ). 1 + z) (sum-one n) ∙ (let e : 1 + n ≡ suc n = omega arith in e)
-
 -- "the tree's size is its node count"
 pub tree-size : (c : Contents) → WellFormed c → size (root c) ≡ length (c .nodes)
-tree-size c f = size-weighs (root c) ∙ f .whole one ∙ sum-one (length (c .nodes))
+tree-size c f = size-weighs (root c) ∙ f .whole one ∙ sum-same 1 (length (c .nodes)) ∙ mul-one (length (c .nodes))
 
 -- 1 for a number, 0 for any other
 abbrev pub just : ℕ → ℕ → ℕ
