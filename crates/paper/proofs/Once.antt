@@ -87,10 +87,9 @@ distinct-once : (l : List ℕ) → ((v : ℕ) → times v l ≤ 1) → Distinct 
 distinct-once [] h = tt
 distinct-once (x ∷ l) h = (
   λ b m e.
-      let p : times x (x ∷ l) ≤ 1 = h x in
-      let q : 1 ≤ times x l = subst (λ (z : ℕ). 1 ≤ times z l) (sym e) (times-member b l m) in
-      let r : just x x + times x l ≤ 1 = p in
-      let s : 1 + times x l ≤ 1 = rw (eq-eqb x x refl) at r in
+      let again : 1 ≤ times x l = subst (λ (z : ℕ). 1 ≤ times z l) (sym e) (times-member b l m) in
+      let both : just x x + times x l ≤ 1 = h x in
+      let two : 1 + times x l ≤ 1 = rw (eq-eqb x x refl) at both in
       omega arith,
   distinct-once l (λ v. let z : just v x + times v l ≤ 1 = h v in omega arith),
 )
