@@ -16,37 +16,10 @@ use Rattle.paper.specs.Tree.Term.{Var, Wildcard, Value, Sigil, Array, Ar
 use Rattle.paper.specs.Tree.Arguments.{no-argument, argument}
 use Rattle.paper.specs.Tree.Items.{no-item, item}
 use Rattle.paper.specs.FreeAndRestricted.{is-sigil, tied, holds-sigil}
-use Rattle.paper.specs.Places.{
-  Spot,
-  condition,
-  operand,
-  searched,
-  searched-arguments,
-  searched-items,
-  Place,
-  asked-at,
-  Entry,
-  Broken,
-  Unmet,
-  Located,
-  Earlier,
-  Precedes,
-  Exactly,
-  findings,
-  spot-size,
-  found,
-}
+use Rattle.paper.specs.Places.{Spot, condition, operand, searched, searched-arguments, searched-items, Place, asked-at}
+use Rattle.paper.specs.Places.{Entry, Broken, Unmet, Located, Earlier, Precedes, Exactly, findings, spot-size, found}
 use Rattle.paper.specs.Scoping.{reserved, binder-sigil, scope-below, scope-broken, ScopingUnmet, scoping-part}
-use Rattle.paper.specs.Demands.{
-  closedness-broken,
-  ClosednessUnmet,
-  closedness-part,
-  comparison-broken,
-  demand-below,
-  demand-broken,
-  DemandUnmet,
-  demands-part,
-}
+use Rattle.paper.specs.Demands.{closedness-broken, ClosednessUnmet, closedness-part, comparison-broken, demand-below, demand-broken, DemandUnmet, demands-part}
 use Rattle.paper.proofs.Ascending.{asc-map}
 use Rattle.paper.proofs.Entries.{entries, entries-get, entries-put, entries-asc, entries-findings, ByRule, rule-of}
 use Rattle.paper.proofs.Walks.{All, all-map, all-unless, all-at, extent, found-exactly}

@@ -1,25 +1,11 @@
--- No packed number stands twice in a list. A number is counted in each part of the list, and weighed in the tree: a node weighs as many rules of the part as
--- the number names at it. What is found from a place has the number no more often than what stands there weighs, and the whole tree weighs one at most,
--- since each node stands in it once. Assumes nothing.
+-- No packed number stands twice in a list. For each number a node weighs one where the number is of a rule at that node. A part of the list then has the number
+-- no more often than the nodes weigh by the part's rules (Tallies.antt), and by all rules they weigh one at most: a number has one rule and one node.
+-- Assumes nothing.
 use mathlib.Core.Path.{_≡_, refl, sym, ap, _∙_, subst}
 use mathlib.Core.Logic.{⊎-elim}
 use mathlib.Core.Bool.{Bool, true, false}
-use mathlib.Core.List.{
-  List,
-  [],
-  _∷_,
-  _++_,
-  map,
-  map-append,
-  map-map,
-  List·Memᴰ,
-  List·Memᴰ·head,
-  List·Memᴰ·tail,
-  List·Memᴰ·not-nil,
-  List·Memᴰ·cases-cons,
-  List·Memᴰ·eq-of-singleton,
-  Memᴰ·of-map,
-}
+use mathlib.Core.List.{List, [], _∷_, _++_, map, map-append, map-map}
+use mathlib.Core.List.{List·Memᴰ, List·Memᴰ·head, List·Memᴰ·tail, List·Memᴰ·not-nil, List·Memᴰ·cases-cons, List·Memᴰ·eq-of-singleton, Memᴰ·of-map}
 use Prim.Native.Nat.{ℕ, zero, suc, _+_, _*_, _-_, _/_, _<_, _≤_}
 use native.Mathlib.Omega.{arith}
 use native.Mathlib.Decide.{ℕ-discrete}
@@ -30,7 +16,6 @@ use borrow.Author.Tests.{eq-eqb, ne-eqb, eqb-true}
 use Rattle.paper.specs.declared.NodeNo.{NodeNo}
 use Rattle.paper.specs.declared.Subject.{Subject}
 use Rattle.paper.specs.declared.Subject.the-variants.{Name, NoName}
-use Rattle.paper.specs.declared.Slot.the-variants as slot
 use Rattle.paper.specs.declared.Finding.{Finding}
 use Rattle.paper.specs.Sets.{Set, none, members}
 use Rattle.paper.specs.Record.{pick}
@@ -43,7 +28,6 @@ use Rattle.paper.specs.Demands.{closedness-broken, closedness-part, dema
 use Rattle.paper.specs.TheList.{the-list, name-or-255, pack, packed}
 use Rattle.paper.proofs.Ascending.{asc-map}
 use Rattle.paper.proofs.Entries.{members-get, members-asc}
-use Rattle.paper.proofs.Exact.{at}
 use Rattle.paper.proofs.Forests.{sum}
 use Rattle.paper.proofs.WellFormed.{WellFormed, just}
 use Rattle.paper.proofs.Tallies.{Tally, scoping-tally, demands-tally}
@@ -239,9 +223,9 @@ module _ (v : ℕ) where
 
   -- ---- the list
 
-  list-once : (c : Contents) → WellFormed c → times v (packed c) ≤ 1
+  number-once : (c : Contents) → WellFormed c → times v (packed c) ≤ 1
   unfolding packed the-list by-number closedness-part closedness-broken root-no
-  list-once c f =
+  number-once c f =
       let n = length (c .nodes) in
       let some = f .some-node in
       omega (
@@ -258,4 +242,4 @@ module _ (v : ℕ) where
 
 -- the theorem
 pub once-each : (c : Contents) → WellFormed c → Distinct (packed c)
-once-each c f = distinct-once (packed c) (λ v. list-once v c f)
+once-each c f = distinct-once (packed c) (λ v. number-once v c f)

@@ -21,28 +21,11 @@ use Rattle.paper.specs.Tree.Arguments.{no-argument, argument}
 use Rattle.paper.specs.Tree.Items.{no-item, item}
 use Rattle.paper.specs.Tree.Binders.{no-binder, binder}
 use Rattle.paper.specs.FreeAndRestricted.{is-sigil, tied, holds-sigil}
-use Rattle.paper.specs.Places.{
-  Spot,
-  condition,
-  operand,
-  searched,
-  searched-arguments,
-  searched-items,
-  Place,
-  asked-at,
-  Cell,
-  Broken,
-  itself,
-  for-names,
-  at-cells,
-  gather,
-  at-cell,
-  findings,
-  found,
-}
+use Rattle.paper.specs.Places.{Spot, condition, operand, searched, searched-arguments, searched-items, Place, asked-at}
+use Rattle.paper.specs.Places.{Cell, Broken, itself, for-names, at-cells, gather, at-cell, findings, found}
 use Rattle.paper.specs.Scoping.{reserved, binder-sigil, cell-of, cells, scope-below, scope-broken, scoping-part}
 use Rattle.paper.specs.Demands.{comparison-broken, demand-below, demand-broken, demands-part}
-use Rattle.paper.proofs.Walks.{All, extent, found-by}
+use Rattle.paper.proofs.Walks.{All, all-map, extent, found-by}
 use Rattle.paper.proofs.Exact.{at, extent-pos, scope-shrinks, demand-shrinks}
 use Rattle.paper.proofs.Weights.{weigh, weigh-term, weigh-arguments, weigh-items, weigh-binders}
 use Rattle.paper.proofs.Forests.{sum}
@@ -68,69 +51,58 @@ pub record Tally : Type 0 where
   pub names-most : (rule : ℕ) (n : NodeNo) (s : Set) → of (findings (for-names rule n s)) ≤ most rule (n .0)
   pub cell-most : (rule : ℕ) (s : Set) (c : Cell) → c .name .0 < 128 → of (at-cell rule s c) ≤ most-at-cell rule (c .node .0)
 
+abbrev add-up : {A : Type 0} → (A → ℕ) → List A → ℕ
+add-up f [] = 0
+add-up f (a ∷ l) = f a + add-up f l
+
 module _ (t : Tally) where
-  -- ---- what is broken at a place
+  gather-tally : {A : Type 0} (f : A → List Finding) (bound : A → ℕ) (l : List A) → All (λ a. t .of (f a) ≤ bound a) l → t .of (gather f l) ≤ add-up bound l
+  unfolding gather
+  gather-tally f bound [] h = omega (arith, t .of-none)
+  gather-tally f bound (a ∷ l) h = omega (arith, t .of-both (f a) (gather f l), h .0, gather-tally f bound l (h .1))
 
   abbrev cells-most : ℕ → List Cell → ℕ
-  cells-most rule [] = 0
-  cells-most rule (c ∷ cs) = t .most-at-cell rule (c .node .0) + cells-most rule cs
+  cells-most rule cs = add-up (λ c. t .most-at-cell rule (c .node .0)) cs
 
-  abbrev broken-most : List Broken → ℕ
-  broken-most [] = 0
-  broken-most (itself rule n ∷ bs) = t .most rule (n .0) + broken-most bs
-  broken-most (for-names rule n s ∷ bs) = t .most rule (n .0) + broken-most bs
-  broken-most (at-cells rule s cs ∷ bs) = cells-most rule cs + broken-most bs
+  abbrev broken-most : Broken → ℕ
+  broken-most (itself rule n) = t .most rule (n .0)
+  broken-most (for-names rule n s) = t .most rule (n .0)
+  broken-most (at-cells rule s cs) = cells-most rule cs
 
-  cells-tally : (rule : ℕ) (s : Set) (cs : List Cell) → All (SaneCell 512 128) cs → t .of (findings (at-cells rule s cs)) ≤ cells-most rule cs
-  unfolding findings gather
-  cells-tally rule s [] h = let z = t .of-none in omega arith
-  cells-tally rule s (c ∷ cs) h =
-      let x = t .of-both (at-cell rule s c) (gather (at-cell rule s) cs) in
-      let y = t .cell-most rule s c (h .0 .1) in
-      let z = cells-tally rule s cs (h .1) in
-      omega arith
-
-  broken-tally : (bs : List Broken) → All (SaneBroken 512 128) bs → t .of (gather findings bs) ≤ broken-most bs
-  unfolding gather
-  broken-tally [] h = let z = t .of-none in omega arith
-  broken-tally (itself rule n ∷ bs) h =
-      omega (arith, t .of-both (findings (itself rule n)) (gather findings bs), t .itself-most rule n, broken-tally bs (h .1))
-  broken-tally (for-names rule n s ∷ bs) h =
-      omega (arith, t .of-both (findings (for-names rule n s)) (gather findings bs), t .names-most rule n s, broken-tally bs (h .1))
-  broken-tally (at-cells rule s cs ∷ bs) h =
-      omega (arith, t .of-both (findings (at-cells rule s cs)) (gather findings bs), cells-tally rule s cs (h .0 .1), broken-tally bs (h .1))
+  broken-tally : (b : Broken) → SaneBroken 512 128 b → t .of (findings b) ≤ broken-most b
+  unfolding findings
+  broken-tally (itself rule n) h = t .itself-most rule n
+  broken-tally (for-names rule n s) h = t .names-most rule n s
+  broken-tally (at-cells rule s cs) h =
+      gather-tally (at-cell rule s) (λ c. t .most-at-cell rule (c .node .0)) cs (all-map (λ c (k : SaneCell 512 128 c). t .cell-most rule s c (k .1)) cs (h .1))
 
   -- ---- a walk
 
   module _ (w : ℕ → ℕ) where
-    abbrev load : List Place → ℕ
-    load [] = 0
-    load (q ∷ qs) = weigh-spot (q .spot) w + load qs
+    abbrev load : Place → ℕ
+    load p = weigh-spot (p .spot) w
 
-    below-tally : (f : Place → List Finding) (qs : List Place) → All (λ q. t .of (f q) ≤ weigh-spot (q .spot) w) qs → t .of (gather f qs) ≤ load qs
-    unfolding gather
-    below-tally f [] a = let z = t .of-none in omega arith
-    below-tally f (q ∷ qs) a = let x = t .of-both (f q) (gather f qs) in let y = a .0 in let z = below-tally f qs (a .1) in omega arith
+    -- what can be found at a place leaves room for what weighs below it
+    abbrev Room : List Broken → List Place → ℕ → Type 0
+    Room broken below weight = add-up broken-most broken + add-up load below ≤ weight
 
-    -- what can be found at each place weighs no more than what stands there and at no place below
     found-tally : (below : Place → List Place) (broken : Place → List Broken) → ((p : Place) → All (λ q. extent q < extent p) (below p))
         → ((p : Place) → SanePlace 512 128 p → All (SanePlace 512 128) (below p)) → ((p : Place) → SanePlace 512 128 p → All (SaneBroken 512 128) (broken p))
-        → ((p : Place) → broken-most (broken p) + load (below p) ≤ weigh-spot (p .spot) w)
-        → (p : Place) → SanePlace 512 128 p → t .of (found below broken p) ≤ weigh-spot (p .spot) w
+        → ((p : Place) → Room (broken p) (below p) (load p)) → (p : Place) → SanePlace 512 128 p → t .of (found below broken p) ≤ load p
     found-tally below broken shrinks goes-down sane room =
-        found-by below broken extent-pos shrinks (SanePlace 512 128) goes-down (λ p l. t .of l ≤ weigh-spot (p .spot) w)
+        found-by below broken extent-pos shrinks (SanePlace 512 128) goes-down (λ p l. t .of l ≤ load p)
         (λ p h a.
         omega (
           arith,
           t .of-both (gather findings (broken p)) (gather (found below broken) (below p)),
-          broken-tally (broken p) (sane p h),
-          below-tally (found below broken) (below p) a,
+          gather-tally findings broken-most (broken p) (all-map broken-tally (broken p) (sane p h)),
+          gather-tally (found below broken) load (below p) a,
           room p,
         ))
 
     -- ---- scoping
 
-    -- a node weighs what exists, an aggregate, or what may not be searched can find there, and a binder cell what its aggregate can
+    -- a node weighs what can be found at it, whatever stands there: a term that is searched, exists or tp, an aggregate, a binder cell
     abbrev pub ScopeCovers : Type 0
     ScopeCovers =
         (k : ℕ)
@@ -146,16 +118,14 @@ module _ (t : Tally) where
       binders-room (binder n (slot.Binder k) y l) = omega (arith, binders-room l)
 
       aggregate-room : (skipped : Bool) (words summed unbound unfree loose scope : Set) (n : NodeNo) (l : Binders) (b : Condition)
-          → broken-most
+          → Room
           (pick skipped []
           (at-cells 22 words (cells l) ∷ for-names 24 n summed ∷ for-names 25 n unbound ∷ at-cells 26 unfree (cells l) ∷ at-cells 27 loose (cells l) ∷ []))
-          + load (pick skipped [] (asked-at (condition b) scope ∷ []))
-          ≤ w (n .0) + (weigh-binders l w + weigh b w)
+          (pick skipped [] (asked-at (condition b) scope ∷ [])) (w (n .0) + (weigh-binders l w + weigh b w))
       aggregate-room true words summed unbound unfree loose scope n l b = omega arith
       aggregate-room false words summed unbound unfree loose scope n l b = omega (arith, covers (n .0) .3, binders-room l)
 
-      scope-room : (words : Set) (s : Spot) (names : Set) (asked : Bool)
-          → broken-most (scope-broken words (at s names asked)) + load (scope-below (at s names asked)) ≤ weigh-spot s w
+      scope-room : (words : Set) (s : Spot) (names : Set) (asked : Bool) → Room (scope-broken words (at s names asked)) (scope-below (at s names asked)) (weigh-spot s w)
       unfolding scope-below scope-broken weigh
       scope-room words (condition (And n l r)) s a = omega arith
       scope-room words (condition (Or n l r)) s a = omega arith
@@ -206,12 +176,12 @@ module _ (t : Tally) where
     DemandCovers = (k : ℕ) → (t .most 30 k ≤ w k) × (t .most 31 k ≤ w k) × (t .most 32 k ≤ w k)
 
     module _ (covers : DemandCovers) where
-      comparison-room : (n : NodeNo) (l r : Term) (ties : Set) (side : Tied) → broken-most (comparison-broken n l r ties side) ≤ w (n .0)
+      comparison-room : (n : NodeNo) (l r : Term) (ties : Set) (side : Tied) → add-up broken-most (comparison-broken n l r ties side) ≤ w (n .0)
       comparison-room n l r ties (Left x) = omega (arith, covers (n .0) .0)
       comparison-room n l r ties (Right x) = omega (arith, covers (n .0) .0)
       comparison-room n l r ties Neither = omega (arith, covers (n .0) .1)
 
-      asked-room : (s : Spot) (ties : Set) → broken-most (demand-broken (asked-at s ties)) + load (demand-below (asked-at s ties)) ≤ weigh-spot s w
+      asked-room : (s : Spot) (ties : Set) → Room (demand-broken (asked-at s ties)) (demand-below (asked-at s ties)) (weigh-spot s w)
       unfolding demand-below demand-broken weigh
       asked-room (condition (And n l r)) s = omega arith
       asked-room (condition (Or n l r)) s = omega arith
@@ -238,8 +208,7 @@ module _ (t : Tally) where
       asked-room (searched-items l) s = omega arith
 
       -- what is not asked breaks nothing
-      demand-room : (s : Spot) (ties : Set) (asked : Bool)
-          → broken-most (demand-broken (at s ties asked)) + load (demand-below (at s ties asked)) ≤ weigh-spot s w
+      demand-room : (s : Spot) (ties : Set) (asked : Bool) → Room (demand-broken (at s ties asked)) (demand-below (at s ties asked)) (weigh-spot s w)
       unfolding demand-below demand-broken
       demand-room s ties true = asked-room s ties
       demand-room s ties false = omega (arith, asked-room s ties)

@@ -5,51 +5,17 @@
 use mathlib.Core.Path.{_≡_, refl, sym, ap, ap₂, _∙_, subst}
 use mathlib.Core.Logic.{inl, inr, ⊎-elim}
 use mathlib.Core.Bool.{Bool, true, false}
-use mathlib.Core.List.{
-  List,
-  [],
-  _∷_,
-  _++_,
-  map,
-  map-append,
-  map-map,
-  List·Memᴰ,
-  List·Memᴰ·head,
-  List·Memᴰ·tail,
-  List·Memᴰ·not-nil,
-  List·Memᴰ·cases-cons,
-  List·Memᴰ·append-cases,
-  Memᴰ·append-left,
-  Memᴰ·append-right,
-  Memᴰ·cast,
-  Memᴰ·map,
-  Memᴰ·of-map,
-}
+use mathlib.Core.List.{List, [], _∷_, _++_, map, map-append, map-map}
+use mathlib.Core.List.{List·Memᴰ, List·Memᴰ·head, List·Memᴰ·tail, List·Memᴰ·not-nil, List·Memᴰ·cases-cons, List·Memᴰ·append-cases}
+use mathlib.Core.List.{Memᴰ·append-left, Memᴰ·append-right, Memᴰ·cast, Memᴰ·map, Memᴰ·of-map}
 use Prim.Native.Nat.{ℕ, zero, suc, _+_, _<_, _≤_}
 use native.Mathlib.Omega.{arith}
 use native.Mathlib.Nat.{add-zero}
 use lib.ListN.{getD}
 use Rattle.paper.specs.declared.Finding.{Finding}
 use Rattle.paper.specs.Record.{pick}
-use Rattle.paper.specs.Places.{
-  Place,
-  nowhere,
-  place,
-  Entry,
-  Broken,
-  Unmet,
-  Before,
-  Earlier,
-  Located,
-  Precedes,
-  Ascending,
-  Exactly,
-  gather,
-  findings,
-  spot-size,
-  found-within,
-  found,
-}
+use Rattle.paper.specs.Places.{Place, nowhere, place, Entry, Broken, Unmet, Before, Earlier, Located, Precedes, Ascending, Exactly}
+use Rattle.paper.specs.Places.{gather, findings, spot-size, found-within, found}
 use Rattle.paper.proofs.Ascending.{asc-append, asc-map}
 use Rattle.paper.proofs.Entries.{entries, entries-get, entries-put, gather-get, gather-put, ByRule, gather-asc, gather-findings}
 
