@@ -66,25 +66,25 @@ unpack-pack f h =
 
 -- ---- the parts
 
-fits-here : (b : Broken) → SaneBroken 512 128 b → Finds Fits b
-fits-here (itself r n) h = (h .0, omega arith, tt)
-fits-here (for-names r n s) h = λ x l. (h .0, omega arith, omega arith)
-fits-here (at-cells r s cs) h = all-map (λ c (k : SaneCell 512 128 c). (h .0, omega arith, omega arith)) cs (h .1)
+finds-fitting : (b : Broken) → SaneBroken 512 128 b → Finds Fits b
+finds-fitting (itself r n) h = (h .0, omega arith, tt)
+finds-fitting (for-names r n s) h = λ x l. (h .0, omega arith, omega arith)
+finds-fitting (at-cells r s cs) h = all-map (λ c (k : SaneCell 512 128 c). (h .0, omega arith, omega arith)) cs (h .1)
 
 pub scoping-fits : (c : Contents) → WellFormed c → (seed : Set) → All Fits (scoping-part c seed)
 scoping-fits c f seed =
     scoping-each Fits (SanePlace 512 128) c seed (scope-below-sane 512 128)
-    (λ p h. let words = reserved (c .names) in all-map fits-here (scope-broken words p) (scope-broken-sane 512 128 words p h)) (sane-any c f)
+    (λ p h. let words = reserved (c .names) in all-map finds-fitting (scope-broken words p) (scope-broken-sane 512 128 words p h)) (sane-any c f)
 
 pub demands-fits : (c : Contents) → WellFormed c → All Fits (demands-part c)
 demands-fits c f =
     demands-each Fits (SanePlace 512 128) c (demand-below-sane 512 128)
-    (λ p h. all-map fits-here (demand-broken p) (demand-broken-sane 512 128 p h)) (sane-any c f)
+    (λ p h. all-map finds-fitting (demand-broken p) (demand-broken-sane 512 128 p h)) (sane-any c f)
 
 pub closedness-fits : (c : Contents) → WellFormed c → All Fits (closedness-part c)
 unfolding closedness-part closedness-broken root-no
 closedness-fits c f =
-    let h = f .some-node in let k = f .few-nodes in findings-all Fits (closedness-broken c) (fits-here (closedness-broken c) (omega arith, omega arith))
+    let h = f .some-node in let k = f .few-nodes in findings-all Fits (closedness-broken c) (finds-fitting (closedness-broken c) (omega arith, omega arith))
 
 pub list-fits : (c : Contents) → WellFormed c → All Fits (the-list c)
 unfolding the-list

@@ -28,8 +28,8 @@ abbrev pub ruled : ℕ → ℕ → List Finding → List Finding
 ruled low high [] = []
 ruled low high (f ∷ fs) = pick (leb low (f .rule) && leb (f .rule) high) (f ∷ ruled low high fs) (ruled low high fs)
 
-abbrev Within : ℕ → ℕ → List Finding → Type 0
-Within low high l = All (λ f. Between low high (f .rule)) l
+abbrev AllBetween : ℕ → ℕ → List Finding → Type 0
+AllBetween low high l = All (λ f. Between low high (f .rule)) l
 
 ruled-append : (low high : ℕ) (a b : List Finding) → ruled low high (a ++ b) ≡ ruled low high a ++ ruled low high b
 ruled-append low high [] b = refl
@@ -40,20 +40,20 @@ ruled-append low high (f ∷ a) b = go (leb low (f .rule) && leb (f .rule) high)
     go true e = ap (λ (l : List Finding). f ∷ l) e
     go false e = e
 
-ruled-all : (low high : ℕ) (l : List Finding) → Within low high l → ruled low high l ≡ l
+ruled-all : (low high : ℕ) (l : List Finding) → AllBetween low high l → ruled low high l ≡ l
 ruled-all low high [] h = refl
 ruled-all low high (f ∷ l) h =
     rw (le-leb low (f .rule) (h .0 .0), le-leb (f .rule) high (h .0 .1)) (ap (λ (l : List Finding). f ∷ l) (ruled-all low high l (h .1)))
 
-outside : (low high rule : ℕ) → (rule < low) ⊎ (high < rule) → (leb low rule && leb rule high) ≡ false
-outside low high rule = ⊎-elim (λ k. rw (lt-leb low rule k)) (λ k. rw (lt-leb rule high k) (and-false (leb low rule)))
+not-between : (low high rule : ℕ) → (rule < low) ⊎ (high < rule) → (leb low rule && leb rule high) ≡ false
+not-between low high rule = ⊎-elim (λ k. rw (lt-leb low rule k)) (λ k. rw (lt-leb rule high k) (and-false (leb low rule)))
 
-ruled-none : (low high from to : ℕ) (l : List Finding) → Within from to l → (to < low) ⊎ (high < from) → ruled low high l ≡ []
+ruled-none : (low high from to : ℕ) (l : List Finding) → AllBetween from to l → (to < low) ⊎ (high < from) → ruled low high l ≡ []
 ruled-none low high from to [] h k = refl
 ruled-none low high from to (f ∷ l) h k =
     let o : (f .rule < low) ⊎ (high < f .rule) =
     ⊎-elim (λ (d : to < low). inl (let z = h .0 .1 in omega arith)) (λ (d : high < from). inr (let z = h .0 .0 in omega arith)) k in
-    rw (outside low high (f .rule) o) (ruled-none low high from to l (h .1) k)
+    rw (not-between low high (f .rule) o) (ruled-none low high from to l (h .1) k)
 
 -- ---- the rules of the three parts
 
@@ -63,50 +63,46 @@ finds-between low high (itself r n) h = h
 finds-between low high (for-names r n s) h = λ x l. h
 finds-between low high (at-cells r s cs) h = all-of _ cs (λ c m. h)
 
--- a walk that breaks only rules of a part has only entries of that part
-rules-found : (low high : ℕ) (l : List Broken) → Rising low high l → All (Finds (λ f. Between low high (f .rule))) l
-rules-found low high l h = all-map (finds-between low high) l (rising-between low high l h)
+all-find-between : (low high : ℕ) (l : List Broken) → Rising low high l → All (Finds (λ f. Between low high (f .rule))) l
+all-find-between low high l h = all-map (finds-between low high) l (rising-between low high l h)
 
-scoping-within : (c : Contents) (seed : Set) → Within 20 27 (scoping-part c seed)
-scoping-within c seed =
+scoping-between : (c : Contents) (seed : Set) → AllBetween 20 27 (scoping-part c seed)
+scoping-between c seed =
     let words = reserved (c .names) in
-    scoping-each _ (λ p. Unit {0}) c seed (λ p h. all-of _ (scope-below p) (λ q m. tt)) (λ p h. rules-found 20 27 (scope-broken words p) (scope-rising words p)) tt
+    scoping-each _ (λ p. Unit {0}) c seed (λ p h. all-of _ (scope-below p) (λ q m. tt)) (λ p h. all-find-between 20 27 (scope-broken words p) (scope-rising words p)) tt
 
-closedness-within : (c : Contents) → Within 28 28 (closedness-part c)
+closedness-between : (c : Contents) → AllBetween 28 28 (closedness-part c)
 unfolding closedness-part closedness-broken
-closedness-within c = findings-all _ (closedness-broken c) (finds-between 28 28 (closedness-broken c) (omega arith))
+closedness-between c = findings-all _ (closedness-broken c) (finds-between 28 28 (closedness-broken c) (omega arith))
 
-demands-within : (c : Contents) → Within 30 32 (demands-part c)
-demands-within c =
-    demands-each _ (λ p. Unit {0}) c (λ p h. all-of _ (demand-below p) (λ q m. tt)) (λ p h. rules-found 30 32 (demand-broken p) (demand-rising p)) tt
+demands-between : (c : Contents) → AllBetween 30 32 (demands-part c)
+demands-between c =
+    demands-each _ (λ p. Unit {0}) c (λ p h. all-of _ (demand-below p) (λ q m. tt)) (λ p h. all-find-between 30 32 (demand-broken p) (demand-rising p)) tt
 
-ruled-list : (low high : ℕ) (c : Contents)
-    → ruled low high (the-list c) ≡ ruled low high (scoping-part c none) ++ (ruled low high (closedness-part c) ++ ruled low high (demands-part c))
+-- the list's entries with some rules, from those of its parts
+ruled-list : (low high : ℕ) (c : Contents) {a b d : List Finding} → ruled low high (scoping-part c none) ≡ a → ruled low high (closedness-part c) ≡ b
+    → ruled low high (demands-part c) ≡ d → ruled low high (the-list c) ≡ a ++ (b ++ d)
 unfolding the-list
-ruled-list low high c =
+ruled-list low high c p q r =
     ruled-append low high (scoping-part c none) (closedness-part c ++ demands-part c)
-    ∙ ap (λ (l : List Finding). ruled low high (scoping-part c none) ++ l) (ruled-append low high (closedness-part c) (demands-part c))
+    ∙ ap₂ {C = List Finding} _++_ p (ruled-append low high (closedness-part c) (demands-part c) ∙ ap₂ {C = List Finding} _++_ q r)
 
 -- "20 to 27 .., then 28, then 30 to 32"
 pub list-scoping : (c : Contents) → ruled 20 27 (the-list c) ≡ scoping-part c none
 list-scoping c =
-    ruled-list 20 27 c
-    ∙ ap₂ {C = List Finding} _++_ (ruled-all 20 27 (scoping-part c none) (scoping-within c none))
-    (ap₂ {C = List Finding} _++_ (ruled-none 20 27 28 28 (closedness-part c) (closedness-within c) (inr (omega arith)))
-    (ruled-none 20 27 30 32 (demands-part c) (demands-within c) (inr (omega arith))))
+    ruled-list 20 27 c (ruled-all 20 27 (scoping-part c none) (scoping-between c none))
+    (ruled-none 20 27 28 28 (closedness-part c) (closedness-between c) (inr (omega arith)))
+    (ruled-none 20 27 30 32 (demands-part c) (demands-between c) (inr (omega arith)))
     ∙ append-nil (scoping-part c none)
 
 pub list-closedness : (c : Contents) → ruled 28 28 (the-list c) ≡ closedness-part c
 list-closedness c =
-    ruled-list 28 28 c
-    ∙ ap₂ {C = List Finding} _++_ (ruled-none 28 28 20 27 (scoping-part c none) (scoping-within c none) (inl (omega arith)))
-    (ap₂ {C = List Finding} _++_ (ruled-all 28 28 (closedness-part c) (closedness-within c))
-    (ruled-none 28 28 30 32 (demands-part c) (demands-within c) (inr (omega arith))))
+    ruled-list 28 28 c (ruled-none 28 28 20 27 (scoping-part c none) (scoping-between c none) (inl (omega arith)))
+    (ruled-all 28 28 (closedness-part c) (closedness-between c))
+    (ruled-none 28 28 30 32 (demands-part c) (demands-between c) (inr (omega arith)))
     ∙ append-nil (closedness-part c)
 
 pub list-demands : (c : Contents) → ruled 30 32 (the-list c) ≡ demands-part c
 list-demands c =
-    ruled-list 30 32 c
-    ∙ ap₂ {C = List Finding} _++_ (ruled-none 30 32 20 27 (scoping-part c none) (scoping-within c none) (inl (omega arith)))
-    (ap₂ {C = List Finding} _++_ (ruled-none 30 32 28 28 (closedness-part c) (closedness-within c) (inl (omega arith)))
-    (ruled-all 30 32 (demands-part c) (demands-within c)))
+    ruled-list 30 32 c (ruled-none 30 32 20 27 (scoping-part c none) (scoping-between c none) (inl (omega arith)))
+    (ruled-none 30 32 28 28 (closedness-part c) (closedness-between c) (inl (omega arith))) (ruled-all 30 32 (demands-part c) (demands-between c))

@@ -90,10 +90,10 @@ demands-b = ap (λ (z : Checks). z .demanded) checks-b
 abbrev lent : List ℕ
 lent = replicate 6 7
 
-list-of : (bytes : List ℕ) (t : Told) → told bytes ≡ t
+as-told : (bytes : List ℕ) (t : Told) → told bytes ≡ t
     → (list bytes 6 ≡ t .listing) × (list-buffer bytes lent ≡ t .buffer) × (arithmetic bytes ≡ t .arith)
 unfolding told
-list-of bytes t e = (ap (λ (z : Told). z .listing) e, ap (λ (z : Told). z .buffer) e, ap (λ (z : Told). z .arith) e)
+as-told bytes t e = (ap (λ (z : Told). z .listing) e, ap (λ (z : Told). z .buffer) e, ap (λ (z : Told). z .arith) e)
 
 -- ---- refuses everything: its answer is never 'accepted', or never a count
 
@@ -109,10 +109,10 @@ demands-refuses-everything f wrong meets = wrong case-b (meets case-b ∙ demand
 
 pub list-refuses-everything : (f : List ℕ → ℕ → Listing) → ((bytes : List ℕ) (room count : ℕ) → f bytes room ≡ Listed count → ⊥)
     → ((bytes : List ℕ) (room : ℕ) → f bytes room ≡ list bytes room) → ⊥
-list-refuses-everything f wrong meets = wrong case-b 6 0 (meets case-b 6 ∙ list-of case-b _ told-b .0)
+list-refuses-everything f wrong meets = wrong case-b 6 0 (meets case-b 6 ∙ as-told case-b _ told-b .0)
 
 pub arithmetic-refuses-everything : (f : List ℕ → Arithmetic) → ((bytes : List ℕ) → f bytes ≡ No → ⊥) → ((bytes : List ℕ) → f bytes ≡ arithmetic bytes) → ⊥
-arithmetic-refuses-everything f wrong meets = wrong case-b (meets case-b ∙ list-of case-b _ told-b .2)
+arithmetic-refuses-everything f wrong meets = wrong case-b (meets case-b ∙ as-told case-b _ told-b .2)
 
 pub reader-refuses-everything : (f : List ℕ → Verdict) → ((bytes : List ℕ) (names nodes : ℕ) → f bytes ≡ Counts names nodes → ⊥)
     → ((bytes : List ℕ) → f bytes ≡ verdict (read bytes)) → ⊥
@@ -153,17 +153,17 @@ demands-fixed = fixed demands case-b case-full Accepted (unmet 31 2 1) demands-b
 
 pub arithmetic-fixed : (r : Arithmetic) → ((bytes : List ℕ) → r ≡ arithmetic bytes) → ⊥
 arithmetic-fixed =
-    fixed arithmetic case-b case-c No Yes (list-of case-b _ told-b .2) (list-of case-c _ told-c .2) (λ e. let z : _≡_ {A = ℕ} 0 1 = cc in omega arith)
+    fixed arithmetic case-b case-c No Yes (as-told case-b _ told-b .2) (as-told case-c _ told-c .2) (λ e. let z : _≡_ {A = ℕ} 0 1 = cc in omega arith)
 
 -- not even one for each size of the buffer, or for each buffer
 pub list-fixed : (r : ℕ → Listing) → ((bytes : List ℕ) (room : ℕ) → r room ≡ list bytes room) → ⊥
 list-fixed r meets =
-    fixed (λ bytes. list bytes 6) case-b case-full (Listed 0) (Listed 2) (list-of case-b _ told-b .0) (list-of case-full _ told-full .0)
+    fixed (λ bytes. list bytes 6) case-b case-full (Listed 0) (Listed 2) (as-told case-b _ told-b .0) (as-told case-full _ told-full .0)
     (λ e. let z : _≡_ {A = ℕ} 0 2 = cc in omega arith) (r 6) (λ bytes. meets bytes 6)
 
 pub buffer-fixed : (r : List ℕ → List ℕ) → ((bytes before : List ℕ) → r before ≡ list-buffer bytes before) → ⊥
 buffer-fixed r meets =
-    fixed (λ bytes. list-buffer bytes lent) case-b case-full _ _ (list-of case-b _ told-b .1) (list-of case-full _ told-full .1)
+    fixed (λ bytes. list-buffer bytes lent) case-b case-full _ _ (as-told case-b _ told-b .1) (as-told case-full _ told-full .1)
     (λ e. let z : _≡_ {A = ℕ} 7 469764097 = cc in omega arith) (r lent) (λ bytes. meets bytes lent)
 
 -- ---- what must stand in the buffer
@@ -171,16 +171,16 @@ buffer-fixed r meets =
 -- what is told of a case with six entries lent is true of any buffer that has room
 told-list : (bytes entries rest : List ℕ) (a : Arithmetic) → told bytes ≡ finds entries rest a → (c : Contents) × (read bytes ≡ accepted c) × (packed c ≡ entries)
 told-list bytes entries rest a e =
-    let t = list-of bytes (finds entries rest a) e in
+    let t = as-told bytes (finds entries rest a) e in
     let s = list-success bytes lent (length entries) (t .0) in
     (s .contents, s .holds, sym (s .written) ∙ ap (take (length entries)) (t .1) ∙ take-pre entries rest)
 
-entries-written : (bytes entries rest : List ℕ) (a : Arithmetic) → told bytes ≡ finds entries rest a → (before : List ℕ) → length entries ≤ length before
-    → take (length entries) (list-buffer bytes before) ≡ entries
-entries-written bytes entries rest a e before h =
+entries-written : (bytes entries rest : List ℕ) (a : Arithmetic) → told bytes ≡ finds entries rest a
+    → (f : List ℕ → List ℕ → List ℕ) → ((bytes before : List ℕ) → f bytes before ≡ list-buffer bytes before) → (before : List ℕ) → length entries ≤ length before → take (length entries) (f bytes before) ≡ entries
+entries-written bytes entries rest a e f meets before h =
     let t = told-list bytes entries rest a e in
     let w = list-writes bytes before (t .0) (t .1) (let z = ap length (t .2) in omega arith) .1 in
-    ap (take (length entries)) (w ∙ ap (λ (l : List ℕ). l ++ drop (length l) before) (t .2)) ∙ take-pre entries (drop (length entries) before)
+    ap (take (length entries)) (meets bytes before ∙ w ∙ ap (λ (l : List ℕ). l ++ drop (length l) before) (t .2)) ∙ take-pre entries (drop (length entries) before)
 
 abbrev rest-of-f : List ℕ
 rest-of-f = at 25 8 0 ∷ at 28 10 0 ∷ at 31 10 0 ∷ []
@@ -188,13 +188,12 @@ rest-of-f = at 25 8 0 ∷ at 28 10 0 ∷ at 31 10 0 ∷ []
 -- whatever meets the contract writes both entries of the full record
 pub two-entries : (f : List ℕ → List ℕ → List ℕ) → ((bytes before : List ℕ) → f bytes before ≡ list-buffer bytes before)
     → (before : List ℕ) → 2 ≤ length before → take 2 (f case-full before) ≡ 469764097 ∷ 520094209 ∷ []
-two-entries f meets before h =
-    ap (take 2) (meets case-full before) ∙ entries-written case-full (469764097 ∷ 520094209 ∷ []) (7 ∷ 7 ∷ 7 ∷ 7 ∷ []) No told-full before h
+two-entries = entries-written case-full (469764097 ∷ 520094209 ∷ []) (7 ∷ 7 ∷ 7 ∷ 7 ∷ []) No told-full
 
 -- and all four of f
 pub four-entries : (f : List ℕ → List ℕ → List ℕ) → ((bytes before : List ℕ) → f bytes before ≡ list-buffer bytes before)
     → (before : List ℕ) → 4 ≤ length before → take 4 (f case-f before) ≡ at 24 8 0 ∷ rest-of-f
-four-entries f meets before h = ap (take 4) (meets case-f before) ∙ entries-written case-f (at 24 8 0 ∷ rest-of-f) (7 ∷ 7 ∷ []) No told-f before h
+four-entries = entries-written case-f (at 24 8 0 ∷ rest-of-f) (7 ∷ 7 ∷ []) No told-f
 
 -- ---- does nothing
 

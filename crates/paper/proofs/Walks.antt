@@ -78,8 +78,8 @@ before-at k j p q x y d e h = subst (λ (z : List ℕ). Before z y) (sym d) (sub
 before-below : (j : ℕ) (q x y : List ℕ) → x ≡ [] → y ≡ j ∷ q → Before x y
 before-below j q x y d e = subst (λ (z : List ℕ). Before z y) (sym d) (subst (λ (z : List ℕ). Before [] z) (sym e) tt)
 
-nil-cons : (i : ℕ) (p : List ℕ) → [] ≡ i ∷ p → ⊥
-nil-cons i p e = let z : _≡_ {A = ℕ} 0 1 = cc in omega arith
+pub nil-cons : {A : Type 0} (a : A) (l : List A) → [] ≡ a ∷ l → ⊥
+nil-cons a l e = let z : _≡_ {A = ℕ} 0 1 = cc in omega arith
 
 abbrev finding-of : Located → Finding
 finding-of l = l .item .finding
