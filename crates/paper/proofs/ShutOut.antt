@@ -6,7 +6,7 @@
 --     invents the count     by the list's length
 -- Assumes nothing.
 use mathlib.Core.Path.{_≡_, refl, sym, ap, _∙_}
-use mathlib.Core.List.{List, [], _∷_, _++_, map}
+use mathlib.Core.List.{List, [], _∷_, _++_}
 use Prim.Native.Nat.{ℕ, _≤_}
 use native.Mathlib.Omega.{arith}
 use lib.ListN.{length, take, drop, getD, replicate, length-replicate}
@@ -31,36 +31,32 @@ use Rattle.paper.proofs.Answers.{list-success, list-writes}
 
 -- ---- what the cases are answered
 
-pub record Checks : Type 0 where
-  pub scoped : Answer
-  pub closed : Answer
-  pub demanded : Answer
-
-checks : List ℕ → Checks
-checks bytes = record { scoped = scoping bytes none; closed = closedness bytes; demanded = demands bytes }
-
 abbrev unmet : ℕ → ℕ → ℕ → Answer
 unmet rule node name = Unmet (record { rule = rule; node = node-no node; name = Name (name-no name) })
 
-checked : map checks (case-b ∷ case-f ∷ case-full ∷ [])
-    ≡ (record { scoped = Accepted; closed = Accepted; demanded = Accepted }
-    ∷ record { scoped = unmet 24 8 0; closed = unmet 28 10 0; demanded = unmet 31 10 0 }
-    ∷ record { scoped = Accepted; closed = unmet 28 8 1; demanded = unmet 31 2 1 }
-    ∷ [])
-unfolding computed checks scoping closedness demands answered first
-checked = refl
+scoping-b : scoping case-b none ≡ Accepted
+unfolding computed scoping answered first
+scoping-b = refl
 
-abbrev nth-check : ℕ → List Checks → Checks
-nth-check i l = getD l i (record { scoped = Accepted; closed = Accepted; demanded = Accepted })
+scoping-f : scoping case-f none ≡ unmet 24 8 0
+unfolding computed scoping answered first
+scoping-f = refl
 
-checks-b : checks case-b ≡ record { scoped = Accepted; closed = Accepted; demanded = Accepted }
-checks-b = ap (nth-check 0) checked
+closedness-b : closedness case-b ≡ Accepted
+unfolding computed closedness answered first
+closedness-b = refl
 
-checks-f : checks case-f ≡ record { scoped = unmet 24 8 0; closed = unmet 28 10 0; demanded = unmet 31 10 0 }
-checks-f = ap (nth-check 1) checked
+closedness-full : closedness case-full ≡ unmet 28 8 1
+unfolding computed closedness answered first
+closedness-full = refl
 
-checks-full : checks case-full ≡ record { scoped = Accepted; closed = unmet 28 8 1; demanded = unmet 31 2 1 }
-checks-full = ap (nth-check 2) checked
+demands-b : demands case-b ≡ Accepted
+unfolding computed demands answered first
+demands-b = refl
+
+demands-full : demands case-full ≡ unmet 31 2 1
+unfolding computed demands answered first
+demands-full = refl
 
 told-b : told case-b ≡ finds [] (7 ∷ 7 ∷ 7 ∷ 7 ∷ 7 ∷ 7 ∷ []) No
 told-b = ap (λ (l : List Told). getD l 1 (told [])) cases
@@ -73,18 +69,6 @@ told-f = ap (λ (l : List Told). getD l 5 (told [])) cases
 
 told-full : told case-full ≡ finds (469764097 ∷ 520094209 ∷ []) (7 ∷ 7 ∷ 7 ∷ 7 ∷ []) No
 told-full = ap (λ (l : List Told). getD l 12 (told [])) cases
-
-scoping-b : scoping case-b none ≡ Accepted
-unfolding checks
-scoping-b = ap (λ (z : Checks). z .scoped) checks-b
-
-closedness-b : closedness case-b ≡ Accepted
-unfolding checks
-closedness-b = ap (λ (z : Checks). z .closed) checks-b
-
-demands-b : demands case-b ≡ Accepted
-unfolding checks
-demands-b = ap (λ (z : Checks). z .demanded) checks-b
 
 -- the buffer of six entries that the cases lend
 abbrev lent : List ℕ
@@ -137,19 +121,16 @@ accepted-unmet : (f : Finding) → Accepted ≡ Unmet f → ⊥
 accepted-unmet f e = let z : _≡_ {A = ℕ} 0 1 = cc in omega arith
 
 pub scoping-fixed : (r : Set → Answer) → ((bytes : List ℕ) (seed : Set) → r seed ≡ scoping bytes seed) → ⊥
-unfolding checks
 scoping-fixed r meets =
-    fixed (λ bytes. scoping bytes none) case-b case-f Accepted (unmet 24 8 0) scoping-b (ap (λ (z : Checks). z .scoped) checks-f) (accepted-unmet _) (r none)
+    fixed (λ bytes. scoping bytes none) case-b case-f Accepted (unmet 24 8 0) scoping-b scoping-f (accepted-unmet _) (r none)
     (λ bytes. meets bytes none)
 
 pub closedness-fixed : (r : Answer) → ((bytes : List ℕ) → r ≡ closedness bytes) → ⊥
-unfolding checks
 closedness-fixed =
-    fixed closedness case-b case-full Accepted (unmet 28 8 1) closedness-b (ap (λ (z : Checks). z .closed) checks-full) (accepted-unmet _)
+    fixed closedness case-b case-full Accepted (unmet 28 8 1) closedness-b closedness-full (accepted-unmet _)
 
 pub demands-fixed : (r : Answer) → ((bytes : List ℕ) → r ≡ demands bytes) → ⊥
-unfolding checks
-demands-fixed = fixed demands case-b case-full Accepted (unmet 31 2 1) demands-b (ap (λ (z : Checks). z .demanded) checks-full) (accepted-unmet _)
+demands-fixed = fixed demands case-b case-full Accepted (unmet 31 2 1) demands-b demands-full (accepted-unmet _)
 
 pub arithmetic-fixed : (r : Arithmetic) → ((bytes : List ℕ) → r ≡ arithmetic bytes) → ⊥
 arithmetic-fixed =
