@@ -245,7 +245,8 @@ closedness-exact c =
     top : Entry → Located
     top e = record { path = []; item = e }
 
-demands-found : (c : Contents) → Exactly (Unmet demand-below demand-broken (asked-at (condition (root c)) none)) (found demand-below demand-broken (asked-at (condition (root c)) none))
+demands-found : (c : Contents)
+    → Exactly (Unmet demand-below demand-broken (asked-at (condition (root c)) none)) (found demand-below demand-broken (asked-at (condition (root c)) none))
 unfolding demand-broken demand-below
 demands-found c =
     found-exactly demand-below demand-broken extent-pos demand-shrinks refl refl (λ p. rising-by-rule 30 32 (demand-broken p) (demand-rising p))

@@ -10,7 +10,9 @@ use lib.ListN.{length, getD, drop}
 use borrow.Author.Tests.{ltb-true}
 use Rattle.paper.specs.declared.Slot.the-variants.{Name, Param, Binder}
 use Rattle.paper.specs.Sets.{Set, only, _∪_}
-use Rattle.paper.specs.Record.{pick, byte, second, two-bytes, Sort, condition, term, arguments, items, binders, fits, Field, to, name-number, symbol, octet, comparison-op, arith-op, slot, field-bytes, value, values, slot-of, name-no, Kind, kinds, format, name, end, node, node-kind, announced}
+use Rattle.paper.specs.Record.{pick, byte, second, two-bytes, Sort, condition, term, arguments, items, binders, fits, Field, to, name-number, symbol, octet}
+use Rattle.paper.specs.Record.{comparison-op, arith-op, slot, field-bytes, value, values, slot-of, name-no, Kind, kinds, format, name, end, node, node-kind}
+use Rattle.paper.specs.Record.{announced}
 use Rattle.paper.specs.TurnedAway.{Seen, unseen, SoFar, Checked, fault, fine, refer, in-range, check, check-all}
 use Rattle.paper.specs.declared.NodeNo.{NodeNo}
 use Rattle.paper.specs.Tree.{Tree, planted}

@@ -10,7 +10,8 @@ use lib.ListN.{length, take, drop, getD}
 use lib.Seq.{drop-drop}
 use borrow.Author.Tests.{leb-false, eqb-true, eq-eqb}
 use Rattle.paper.specs.Sets.{Set, all-below}
-use Rattle.paper.specs.Record.{pick, most-names, name-bytes, most-nodes, is-name, precedes, byte, two-bytes, condition, fits, values, Kind, Announced, format, name, end, unknown, node, announced, body-bytes}
+use Rattle.paper.specs.Record.{pick, most-names, name-bytes, most-nodes, is-name, precedes, byte, two-bytes, condition, fits, values}
+use Rattle.paper.specs.Record.{Kind, Announced, format, name, end, unknown, node, announced, body-bytes}
 use Rattle.paper.specs.TurnedAway.{
   Contents,
   Outcome,

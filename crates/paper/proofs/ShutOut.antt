@@ -157,7 +157,8 @@ told-list bytes entries rest a e =
     (s .contents, s .holds, sym (s .written) ∙ ap (take (length entries)) (t .1) ∙ take-pre entries rest)
 
 entries-written : (bytes entries rest : List ℕ) (a : Arithmetic) → told bytes ≡ finds entries rest a
-    → (f : List ℕ → List ℕ → List ℕ) → ((bytes before : List ℕ) → f bytes before ≡ list-buffer bytes before) → (before : List ℕ) → length entries ≤ length before → take (length entries) (f bytes before) ≡ entries
+    → (f : List ℕ → List ℕ → List ℕ) → ((bytes before : List ℕ) → f bytes before ≡ list-buffer bytes before) → (before : List ℕ)
+    → length entries ≤ length before → take (length entries) (f bytes before) ≡ entries
 entries-written bytes entries rest a e f meets before h =
     let t = told-list bytes entries rest a e in
     let w = list-writes bytes before (t .0) (t .1) (let z = ap length (t .2) in omega arith) .1 in

@@ -121,7 +121,8 @@ module _ (below : Place → List Place) (broken : Place → List Broken) where
     enough (suc d) zero p h k = absurd (let z = pos p in omega arith)
     enough (suc d) (suc e) p h k =
         ap (λ (z : List Located). map here (own p) ++ z)
-        (forest-same (find-within d) (find-within e) 0 (below p) (all-map (λ q (l : extent q < extent p). enough d e q (omega arith) (omega arith)) (below p) (shrinks p)))
+        (forest-same (find-within d) (find-within e) 0 (below p)
+        (all-map (λ q (l : extent q < extent p). enough d e q (omega arith) (omega arith)) (below p) (shrinks p)))
 
     parts : (p : Place) → find p ≡ map here (own p) ++ forest find 0 (below p)
     unfolding find find-within

@@ -10,7 +10,8 @@ use Rattle.paper.specs.declared.Node.{Node}
 use Rattle.paper.specs.declared.Node.the-variants as node
 use Rattle.paper.specs.Record.{Sort, condition, term, arguments, items, binders}
 use Rattle.paper.specs.Tree as tree
-use Rattle.paper.specs.Tree.{Condition, Term, Arguments, Items, Binders, Tree, a-condition, a-term, an-end, as-condition, as-term, as-arguments, as-items, as-binders, planted, size, term-size, arguments-size, items-size, binders-size}
+use Rattle.paper.specs.Tree.{Condition, Term, Arguments, Items, Binders, Tree, a-condition, a-term, an-end, as-condition, as-term, as-arguments, as-items}
+use Rattle.paper.specs.Tree.{as-binders, planted, size, term-size, arguments-size, items-size, binders-size}
 use Rattle.paper.specs.Tree.Condition.{And, Or, Not, Past, Since, Exists, Comparison, Predicate, Refine, Tp, Opaque}
 use Rattle.paper.specs.Tree.Term.{Var, Wildcard, Value, Sigil, Array, Arith, Sum, Count, AggregateCall}
 use Rattle.paper.specs.Tree.Arguments.{no-argument, argument}
