@@ -1,20 +1,19 @@
 -- What holds of each finding of a walk, and so of each entry of a part of the list: what holds at a place goes down with the walk, and has each rule that is
 -- broken there find only what is fine. Assumes nothing.
-use mathlib.Core.Bool.{Bool, true, false}
 use mathlib.Core.List.{List, [], _∷_, map}
 use Prim.Native.Nat.{ℕ, _<_}
 use Rattle.paper.specs.declared.Subject.the-variants.{Name, NoName}
 use Rattle.paper.specs.declared.Finding.{Finding}
-use Rattle.paper.specs.Record.{pick, name-no}
+use Rattle.paper.specs.Record.{name-no}
 use Rattle.paper.specs.Sets.{Set, none, members}
 use Rattle.paper.specs.TurnedAway.{Contents}
 use Rattle.paper.specs.Tree.{root}
 use Rattle.paper.specs.FreeAndRestricted.{holds-sigil}
-use Rattle.paper.specs.Places.{condition, Place, asked-at, Cell, Broken, itself, for-names, at-cells, gather, at-cell, findings, found}
+use Rattle.paper.specs.Places.{condition, Place, asked-at, Broken, itself, for-names, at-cells, gather, at-cell, findings, found}
 use Rattle.paper.specs.Scoping.{reserved, scope-below, scope-broken, scoping-part}
 use Rattle.paper.specs.Demands.{demand-below, demand-broken, demands-part}
 use Rattle.paper.proofs.Entries.{members-get}
-use Rattle.paper.proofs.Walks.{All, all-map, all-unless, all-append, all-of, extent, found-by}
+use Rattle.paper.proofs.Walks.{picked, All, all-map, all-unless, all-append, all-of, extent, found-by}
 use Rattle.paper.proofs.Exact.{extent-pos, scope-shrinks, demand-shrinks}
 
 -- ---- a broken rule
@@ -39,12 +38,7 @@ module _ (Fine : Finding → Type 0) where
   unfolding findings gather at-cell
   findings-all (itself r n) h = (h, tt)
   findings-all (for-names r n s) h = all-of-map Fine _ (members s 128) (all-of _ (members s 128) (λ x m. h x (members-get s 128 x m .0)))
-  findings-all (at-cells r s cs) h = all-gather Fine (at-cell r s) cs (all-map (λ c k. one c k (s (c .name .0))) cs h)
-    where
-      one : (c : Cell) → Fine (record { rule = r; node = c .node; name = Name (c .name) }) → (b : Bool)
-          → All Fine (pick b (record { rule = r; node = c .node; name = Name (c .name) } ∷ []) [])
-      one c k true = (k, tt)
-      one c k false = tt
+  findings-all (at-cells r s cs) h = all-gather Fine (at-cell r s) cs (all-map (λ c k. picked (All Fine) (s (c .name .0)) _ [] (k, tt) tt) cs h)
 
   -- ---- a walk
 

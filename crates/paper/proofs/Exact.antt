@@ -17,12 +17,12 @@ use Rattle.paper.specs.Tree.Arguments.{no-argument, argument}
 use Rattle.paper.specs.Tree.Items.{no-item, item}
 use Rattle.paper.specs.FreeAndRestricted.{is-sigil, tied, holds-sigil}
 use Rattle.paper.specs.Places.{Spot, condition, operand, searched, searched-arguments, searched-items, Place, asked-at}
-use Rattle.paper.specs.Places.{Entry, Broken, Unmet, Located, Earlier, Precedes, Exactly, findings, spot-size, found}
+use Rattle.paper.specs.Places.{Broken, Unmet, Located, Earlier, Precedes, Exactly, findings, spot-size, found}
 use Rattle.paper.specs.Scoping.{reserved, binder-sigil, scope-below, scope-broken, ScopingUnmet, scoping-part}
 use Rattle.paper.specs.Demands.{closedness-broken, ClosednessUnmet, closedness-part, comparison-broken, demand-below, demand-broken, DemandUnmet, demands-part}
 use Rattle.paper.proofs.Ascending.{asc-map}
 use Rattle.paper.proofs.Entries.{entries, entries-get, entries-put, entries-asc, entries-findings, ByRule, rule-of}
-use Rattle.paper.proofs.Walks.{All, all-map, all-unless, all-at, extent, found-exactly}
+use Rattle.paper.proofs.Walks.{here, picked, All, all-map, all-unless, all-at, extent, found-exactly}
 
 -- ---- every place is of some size, and what lies below it is smaller
 
@@ -147,10 +147,6 @@ rising-by-rule low high (b ∷ l) h = (
   rising-by-rule (suc (rule-of b)) high l (h .1),
 )
 
-rising-unless : (low high : ℕ) (b : Bool) (l : List Broken) → Rising low high l → Rising low high (pick b [] l)
-rising-unless low high true l h = tt
-rising-unless low high false l h = h
-
 scope-rising-at : (words : Set) (s : Spot) (n : Set) (a : Bool) → Rising 20 27 (scope-broken words (at s n a))
 unfolding scope-broken
 scope-rising-at words (condition (And n l r)) s a = tt
@@ -170,8 +166,8 @@ scope-rising-at words (operand (Value n k y)) s a = tt
 scope-rising-at words (operand (Sigil n k i)) s a = tt
 scope-rising-at words (operand (Array n l)) s a = tt
 scope-rising-at words (operand (Arith n o l r)) s a = tt
-scope-rising-at words (operand (Sum n v l b)) s a = rising-unless 20 27 (is-sigil v || binder-sigil l) _ (omega arith)
-scope-rising-at words (operand (Count n l b)) s a = rising-unless 20 27 (false || binder-sigil l) _ (omega arith)
+scope-rising-at words (operand (Sum n v l b)) s a = picked (Rising 20 27) (is-sigil v || binder-sigil l) [] _ tt (omega arith)
+scope-rising-at words (operand (Count n l b)) s a = picked (Rising 20 27) (false || binder-sigil l) [] _ tt (omega arith)
 scope-rising-at words (operand (AggregateCall n y)) s a = tt
 scope-rising-at words (searched (Var n x)) s a = tt
 scope-rising-at words (searched (Wildcard n)) s a = tt
@@ -228,22 +224,19 @@ pub closedness-exact : (c : Contents) → Exactly (ClosednessUnmet c) (closednes
 unfolding closedness-part
 closedness-exact c =
     record {
-      located = map top (entries (closedness-broken c));
-      findings = map-map (λ (l : Located). l .item .finding) top (entries (closedness-broken c)) ∙ entries-findings (closedness-broken c);
-      sorted = asc-map Earlier Precedes top (λ x y h. inr (refl, h)) (entries (closedness-broken c)) (entries-asc (closedness-broken c));
+      located = map here (entries (closedness-broken c));
+      findings = map-map (λ (l : Located). l .item .finding) here (entries (closedness-broken c)) ∙ entries-findings (closedness-broken c);
+      sorted = asc-map Earlier Precedes here (λ x y h. inr (refl, h)) (entries (closedness-broken c)) (entries-asc (closedness-broken c));
       sound =
           λ l m.
-          let w = Memᴰ·of-map top (entries (closedness-broken c)) m in (
+          let w = Memᴰ·of-map here (entries (closedness-broken c)) m in (
             sym (ap (λ (z : Located). z .path) (w .2)),
             entries-get (closedness-broken c) (l .item) (Memᴰ·cast (sym (ap (λ (z : Located). z .item) (w .2))) (w .1)),
           );
       complete =
           λ l h.
-          Memᴰ·cast (ap (λ (p : List ℕ). record { path = p; item = l .item }) (h .0)) (Memᴰ·map top (entries-put (closedness-broken c) (l .item) (h .1)));
+          Memᴰ·cast (ap (λ (p : List ℕ). record { path = p; item = l .item }) (h .0)) (Memᴰ·map here (entries-put (closedness-broken c) (l .item) (h .1)));
     }
-  where
-    top : Entry → Located
-    top e = record { path = []; item = e }
 
 demands-found : (c : Contents)
     → Exactly (Unmet demand-below demand-broken (asked-at (condition (root c)) none)) (found demand-below demand-broken (asked-at (condition (root c)) none))

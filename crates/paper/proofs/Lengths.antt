@@ -2,12 +2,11 @@
 -- Assumes nothing.
 use mathlib.Core.Path.{refl}
 use mathlib.Core.Bool.{Bool, true, false, cond}
-use mathlib.Core.List.{[], _∷_, _++_}
+use mathlib.Core.List.{List, [], _∷_, _++_}
 use Prim.Native.Nat.{ℕ, zero, suc, _≤_}
 use native.Mathlib.Omega.{arith}
 use lib.ListN.{length, length-append, length-map}
 use Rattle.paper.specs.declared.Finding.{Finding}
-use Rattle.paper.specs.Record.{pick}
 use Rattle.paper.specs.Sets.{Set, none, members}
 use Rattle.paper.specs.TurnedAway.{Contents}
 use Rattle.paper.specs.Tree.{root-no, root}
@@ -16,6 +15,7 @@ use Rattle.paper.specs.Places.{at-cell, findings}
 use Rattle.paper.specs.Scoping.{scoping-part}
 use Rattle.paper.specs.Demands.{closedness-broken, closedness-part, demands-part}
 use Rattle.paper.specs.TheList.{the-list}
+use Rattle.paper.proofs.Walks.{picked}
 use Rattle.paper.proofs.Forests.{sum-same}
 use Rattle.paper.proofs.WellFormed.{WellFormed}
 use Rattle.paper.proofs.Tallies.{Tally, scoping-tally, demands-tally}
@@ -42,12 +42,8 @@ by-length =
       most-at-cell = λ rule k. 1;
       itself-most = λ rule n. omega arith;
       names-most = λ rule n s. rw (length-map (members s 128) _) (members-length s 128);
-      cell-most = λ rule s c h. one (s (c .name .0)) _;
+      cell-most = λ rule s c h. picked (λ (l : List Finding). length l ≤ 1) (s (c .name .0)) _ [] (omega arith) (omega arith);
     }
-  where
-    one : (b : Bool) (f : Finding) → length (pick b (f ∷ []) []) ≤ 1
-    one true f = omega arith
-    one false f = omega arith
 
 -- ---- the parts
 

@@ -28,6 +28,7 @@ use Rattle.paper.specs.Demands.{closedness-broken, closedness-part, dema
 use Rattle.paper.specs.TheList.{the-list, name-or-255, pack, packed}
 use Rattle.paper.proofs.Ascending.{asc-map}
 use Rattle.paper.proofs.Entries.{members-get, members-asc}
+use Rattle.paper.proofs.Walks.{picked}
 use Rattle.paper.proofs.Forests.{sum}
 use Rattle.paper.proofs.WellFormed.{WellFormed, just}
 use Rattle.paper.proofs.Tallies.{Tally, scoping-tally, demands-tally}
@@ -129,11 +130,7 @@ module _ (v : ℕ) where
 
   own-most : (rule k : ℕ) → own rule k ≤ 1
   unfolding own
-  own-most rule k = go (eqb (rule * 65536 + k) (v / 256))
-    where
-      go : (t : Bool) → pick t 1 0 ≤ 1
-      go true = omega arith
-      go false = omega arith
+  own-most rule k = picked (λ (n : ℕ). n ≤ 1) (eqb (rule * 65536 + k) (v / 256)) 1 0 (omega arith) (omega arith)
 
   own-says : (rule k : ℕ) → 1 ≤ own rule k → rule * 65536 + k ≡ v / 256
   unfolding own
@@ -202,11 +199,9 @@ module _ (v : ℕ) where
 
   often-cell : (rule : ℕ) (s : Set) (c : Cell) → c .name .0 < 128 → often (at-cell rule s c) ≤ own rule (c .node .0)
   unfolding at-cell
-  often-cell rule s c h = go (s (c .name .0))
-    where
-      go : (t : Bool) → often (pick t (record { rule = rule; node = c .node; name = Name (c .name) } ∷ []) []) ≤ own rule (c .node .0)
-      go true = often-one rule (c .node) (Name (c .name)) (unfold name-or-255 in omega arith)
-      go false = omega arith
+  often-cell rule s c h =
+      picked (λ (l : List Finding). often l ≤ own rule (c .node .0)) (s (c .name .0)) _ []
+      (often-one rule (c .node) (Name (c .name)) (unfold name-or-255 in omega arith)) (omega arith)
 
   by-number : Tally
   by-number =

@@ -109,7 +109,7 @@ module _ (under : Place → List Place) (broken : Place → List Broken) (shrink
 
 -- ---- scoping from two seeds
 
-module _ (N M : ℕ) where
+module _ (M : ℕ) where
   abbrev Agree : Set → Set → Type 0
   Agree a b = (x : ℕ) → x < M → a x ≡ b x
 
@@ -131,7 +131,7 @@ module _ (N M : ℕ) where
     again : {s : Spot} {a b : Set} {k : Bool} → Agree a b → Reseeded (at s a k) (at s b k)
 
   -- the scope is looked at by rule 25 alone
-  broken-same : (words : Set) (s : Spot) (a b : Set) (k : Bool) → SanePlace N M (at s a k) → Agree a b → scope-broken words (at s a k) ≡ scope-broken words (at s b k)
+  broken-same : (words : Set) (s : Spot) (a b : Set) (k : Bool) → SanePlace 512 M (at s a k) → Agree a b → scope-broken words (at s a k) ≡ scope-broken words (at s b k)
   unfolding scope-broken
   broken-same words (condition c) a b k h g = refl
   broken-same words (operand (Var n x)) a b k h g = refl
@@ -140,8 +140,8 @@ module _ (N M : ℕ) where
   broken-same words (operand (Sigil n y i)) a b k h g = refl
   broken-same words (operand (Array n l)) a b k h g = refl
   broken-same words (operand (Arith n o l r)) a b k h g = refl
-  broken-same words (operand (Sum n v l c)) a b k h g = rw (outside-same (free c) a b (binder-names l) (free-within N M c (h .3)) g)
-  broken-same words (operand (Count n l c)) a b k h g = rw (outside-same (free c) a b (binder-names l) (free-within N M c (h .2)) g)
+  broken-same words (operand (Sum n v l c)) a b k h g = rw (outside-same (free c) a b (binder-names l) (free-within 512 M c (h .3)) g)
+  broken-same words (operand (Count n l c)) a b k h g = rw (outside-same (free c) a b (binder-names l) (free-within 512 M c (h .2)) g)
   broken-same words (operand (AggregateCall n y)) a b k h g = refl
   broken-same words (searched t) a b k h g = refl
   broken-same words (searched-arguments l) a b k h g = refl
@@ -187,7 +187,7 @@ module _ (N M : ℕ) where
   below-same (searched-items (no-item n)) a b k g = tt
   below-same (searched-items (item n t l)) a b k g = (again g, (again g, tt))
 
-  rules-same : (words : Set) (p q : Place) → SanePlace N M p → Reseeded p q → scope-broken words p ≡ scope-broken words q
+  rules-same : (words : Set) (p q : Place) → SanePlace 512 M p → Reseeded p q → scope-broken words p ≡ scope-broken words q
   rules-same words p q h (again {s} {a} {b} {k} g) = broken-same words s a b k h g
 
   leads-same : (p q : Place) → Reseeded p q → Pairs Reseeded (scope-below p) (scope-below q)
@@ -198,7 +198,7 @@ unfolding scoping-part
 seed-past-the-table c f a b h =
     let M = length (c .names) in
     let words = reserved (c .names) in
-    found-same scope-below (scope-broken words) scope-shrinks (SanePlace 512 M) (scope-below-sane 512 M) (Reseeded 512 M) (rules-same 512 M words) (leads-same 512 M)
+    found-same scope-below (scope-broken words) scope-shrinks (SanePlace 512 M) (scope-below-sane 512 M) (Reseeded M) (rules-same M words) (leads-same M)
     (asked-at (condition (root c)) a) (sane-root c f) (asked-at (condition (root c)) b) (again h)
 
 pub seed-has-no-effect : (bytes : List ℕ) (a b : Set) → ((c : Contents) → read bytes ≡ accepted c → (x : ℕ) → x < length (c .names) → a x ≡ b x)

@@ -25,7 +25,7 @@ use Rattle.paper.specs.Places.{Spot, condition, operand, searched, searc
 use Rattle.paper.specs.Places.{Cell, Broken, itself, for-names, at-cells, gather, at-cell, findings, found}
 use Rattle.paper.specs.Scoping.{reserved, binder-sigil, cell-of, cells, scope-below, scope-broken, scoping-part}
 use Rattle.paper.specs.Demands.{comparison-broken, demand-below, demand-broken, demands-part}
-use Rattle.paper.proofs.Walks.{All, all-map, extent, found-by}
+use Rattle.paper.proofs.Walks.{picked, All, all-map, extent, found-by}
 use Rattle.paper.proofs.Exact.{at, extent-pos, scope-shrinks, demand-shrinks}
 use Rattle.paper.proofs.Weights.{weigh, weigh-term, weigh-arguments, weigh-items, weigh-binders}
 use Rattle.paper.proofs.Forests.{sum}
@@ -215,12 +215,10 @@ module _ (t : Tally) where
 
       pub demands-tally : (c : Contents) → WellFormed c → t .of (demands-part c) ≤ sum w (length (c .nodes))
       unfolding demands-part
-      demands-tally c f = go (holds-sigil (root c))
-        where
-          go : (b : Bool) → t .of (pick b [] (found demand-below demand-broken (asked-at (condition (root c)) none))) ≤ sum w (length (c .nodes))
-          go true = omega (arith, t .of-none)
-          go false =
-              let start = asked-at (condition (root c)) none in
-              subst (λ (most : ℕ). t .of (found demand-below demand-broken start) ≤ most) (f .whole w)
-              (found-tally demand-below demand-broken demand-shrinks (demand-below-sane 512 128) (demand-broken-sane 512 128)
-              (λ p. demand-room (p .spot) (p .names) (p .asked)) start (sane-any c f))
+      demands-tally c f =
+          let start = asked-at (condition (root c)) none in
+          let asked = found demand-below demand-broken start in
+          picked (λ (l : List Finding). t .of l ≤ sum w (length (c .nodes))) (holds-sigil (root c)) [] asked (omega (arith, t .of-none))
+          (subst (λ (most : ℕ). t .of asked ≤ most) (f .whole w)
+          (found-tally demand-below demand-broken demand-shrinks (demand-below-sane 512 128) (demand-broken-sane 512 128)
+          (λ p. demand-room (p .spot) (p .names) (p .asked)) start (sane-any c f)))

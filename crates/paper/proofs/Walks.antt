@@ -1,6 +1,7 @@
 -- The theorem on lists in document order, once for every walk: over what lies below a place and what is broken there.
 --     found-exactly    the list that is found from a place holds exactly what is unmet by the path definition, each once, in document order
 --     found-at         it is what is broken at the place, and then what is found at each place below
+--     found-by         so what holds of it can be shown place by place
 -- A walk has only to show that every place below is smaller, and that the rules broken at a place are named in their order. Assumes nothing.
 use mathlib.Core.Path.{_≡_, refl, sym, ap, ap₂, _∙_, subst}
 use mathlib.Core.Logic.{inl, inr, ⊎-elim}
@@ -19,39 +20,22 @@ use Rattle.paper.specs.Places.{gather, findings, spot-size, found-within
 use Rattle.paper.proofs.Ascending.{asc-append, asc-map}
 use Rattle.paper.proofs.Entries.{entries, entries-get, entries-put, gather-get, gather-put, ByRule, gather-asc, gather-findings}
 
+-- ---- either of two, and every member of a list
+
+pub picked : {A : Type 0} (C : A → Type 0) (b : Bool) (x y : A) → C x → C y → C (pick b x y)
+picked C true x y p q = p
+picked C false x y p q = q
+
 abbrev pub All : {A : Type 0} → (A → Type 0) → List A → Type 0
 All C [] = Unit {0}
 All C (a ∷ l) = C a × All C l
-
-abbrev pub extent : Place → ℕ
-extent p = spot-size (p .spot)
-
--- ---- located lists
-
-abbrev here : Entry → Located
-here e = record { path = []; item = e }
-
-abbrev push : ℕ → Located → Located
-push i l = record { path = i ∷ l .path; item = l .item }
-
-abbrev loc : List ℕ → Entry → Located
-loc p e = record { path = p; item = e }
-
-abbrev forest : (Place → List Located) → ℕ → List Place → List Located
-forest f i [] = []
-forest f i (q ∷ qs) = map (push i) (f q) ++ forest f (suc i) qs
-
-forest-same : (f g : Place → List Located) (i : ℕ) (qs : List Place) → All (λ q. f q ≡ g q) qs → forest f i qs ≡ forest g i qs
-forest-same f g i [] a = refl
-forest-same f g i (q ∷ qs) a = ap₂ {C = List Located} _++_ (ap (map (push i)) (a .0)) (forest-same f g (suc i) qs (a .1))
 
 pub all-map : {A : Type 0} {C D : A → Type 0} → ((a : A) → C a → D a) → (l : List A) → All C l → All D l
 all-map f [] p = tt
 all-map f (a ∷ l) p = (f a (p .0), all-map f l (p .1))
 
 pub all-unless : {A : Type 0} (C : A → Type 0) (b : Bool) (l : List A) → All C l → All C (pick b [] l)
-all-unless C true l a = tt
-all-unless C false l a = a
+all-unless C b l a = picked (All C) b [] l tt a
 
 pub all-both : {A : Type 0} (C D E : A → Type 0) → ((a : A) → C a → D a → E a) → (l : List A) → All C l → All D l → All E l
 all-both C D E f [] p q = tt
@@ -69,6 +53,31 @@ pub all-at : {A : Type 0} (C : A → Type 0) (l : List A) (a : A) → All C l �
 all-at C [] a h m = absurd (List·Memᴰ·not-nil m)
 all-at C (b ∷ l) a h m = ⊎-elim (λ (e : a ≡ b). subst C (sym e) (h .0)) (λ k. all-at C l a (h .1) k) (List·Memᴰ·cases-cons m)
 
+pub nil-cons : {A : Type 0} (a : A) (l : List A) → [] ≡ a ∷ l → ⊥
+nil-cons a l e = let z : _≡_ {A = ℕ} 0 1 = cc in omega arith
+
+-- ---- located lists
+
+abbrev pub extent : Place → ℕ
+extent p = spot-size (p .spot)
+
+abbrev pub here : Entry → Located
+here e = record { path = []; item = e }
+
+abbrev push : ℕ → Located → Located
+push i l = record { path = i ∷ l .path; item = l .item }
+
+abbrev loc : List ℕ → Entry → Located
+loc p e = record { path = p; item = e }
+
+abbrev forest : (Place → List Located) → ℕ → List Place → List Located
+forest f i [] = []
+forest f i (q ∷ qs) = map (push i) (f q) ++ forest f (suc i) qs
+
+forest-same : (f g : Place → List Located) (i : ℕ) (qs : List Place) → All (λ q. f q ≡ g q) qs → forest f i qs ≡ forest g i qs
+forest-same f g i [] a = refl
+forest-same f g i (q ∷ qs) a = ap₂ {C = List Located} _++_ (ap (map (push i)) (a .0)) (forest-same f g (suc i) qs (a .1))
+
 push-up : (k : ℕ) (a b : Located) → Precedes a b → Precedes (push k a) (push k b)
 push-up k a b h = ⊎-elim (λ p. inl (inr (refl, p))) (λ p. inr (ap (λ (z : List ℕ). k ∷ z) (p .0), p .1)) h
 
@@ -77,9 +86,6 @@ before-at k j p q x y d e h = subst (λ (z : List ℕ). Before z y) (sym d) (sub
 
 before-below : (j : ℕ) (q x y : List ℕ) → x ≡ [] → y ≡ j ∷ q → Before x y
 before-below j q x y d e = subst (λ (z : List ℕ). Before z y) (sym d) (subst (λ (z : List ℕ). Before [] z) (sym e) tt)
-
-pub nil-cons : {A : Type 0} (a : A) (l : List A) → [] ≡ a ∷ l → ⊥
-nil-cons a l e = let z : _≡_ {A = ℕ} 0 1 = cc in omega arith
 
 abbrev finding-of : Located → Finding
 finding-of l = l .item .finding
@@ -251,7 +257,7 @@ module _ (below : Place → List Place) (broken : Place → List Broken) where
         ∙ ap₂ {C = List Finding} _++_ (map-map finding-of here (own p) ∙ gather-findings (broken p))
         (forest-findings find (found below broken) (λ q. within-findings (extent q) q) 0 (below p))
 
-    -- what holds of all that is found from a place follows from what is broken there and what is found from each place below, where `Holds` goes down with the walk
+    -- where `Holds` goes down with the walk, and `C` holds of what is broken at a place and found below it if it holds of what is found from each place below
     pub found-by : (Holds : Place → Type 0) → ((p : Place) → Holds p → All Holds (below p)) → (C : Place → List Finding → Type 0)
         → ((p : Place) → Holds p → All (λ q. C q (found below broken q)) (below p) → C p (gather findings (broken p) ++ gather (found below broken) (below p)))
         → (p : Place) → Holds p → C p (found below broken p)
