@@ -4,7 +4,7 @@
 use mathlib.Core.Path.{_≡_, refl, sym, ap, ap₂, _∙_, subst}
 use mathlib.Core.Logic.{_↔_}
 use mathlib.Core.Bool.{Bool, true, false}
-use mathlib.Core.List.{List, [], _∷_, _++_}
+use mathlib.Core.List.{List, [], _∷_, _++_, head-eq-of-cons-eq}
 use Prim.Native.Nat.{ℕ, _<_, _≤_}
 use native.Mathlib.Omega.{arith}
 use lib.Dec.{leb}
@@ -27,6 +27,7 @@ use Rattle.paper.specs.Demands.{ClosednessUnmet, closedness-part, Demand
 use Rattle.paper.specs.TheList.{the-list, packed}
 use Rattle.paper.specs.Questions.{first, answered, scoping, closedness, demands, arithmetic, listing-of, list, buffer-of, list-buffer, name}
 use Rattle.paper.proofs.Ascending.{exactly-one}
+use Rattle.paper.proofs.Walks.{nil-cons}
 use Rattle.paper.proofs.Exact.{scoping-exact, closedness-exact, demands-exact}
 use Rattle.paper.proofs.WellFormed.{well-formed}
 use Rattle.paper.proofs.Once.{Distinct, once-each}
@@ -48,21 +49,15 @@ first-tells [] =
       refuses = λ f. (λ e. absurd (let z : _≡_ {A = ℕ} 0 1 = cc in omega arith), λ w. absurd (nil-cons f (w .0) (w .1)));
       reads = λ number offset e. let z : _≡_ {A = ℕ} 0 1 = cc in omega arith;
     }
-  where
-    nil-cons : (f : Finding) (rest : List Finding) → [] ≡ f ∷ rest → ⊥
-    nil-cons f rest e = let z : _≡_ {A = ℕ} 0 1 = cc in omega arith
 first-tells (g ∷ entries) =
     record {
-      accepts = (λ e. absurd (let z : _≡_ {A = ℕ} 0 1 = cc in omega arith), λ e. absurd (let z : _≡_ {A = ℕ} 0 1 = cc in omega arith));
-      refuses = λ f. (λ e. (entries, same f e), λ w. ap answer.Unmet (head f (w .0) (w .1)));
+      accepts = (λ e. absurd (let z : _≡_ {A = ℕ} 0 1 = cc in omega arith), λ e. absurd (nil-cons g entries (sym e)));
+      refuses = λ f. (λ e. (entries, ap (λ (x : Finding). x ∷ entries) (same f e)), λ w. ap answer.Unmet (head-eq-of-cons-eq (w .1)));
       reads = λ number offset e. let z : _≡_ {A = ℕ} 0 1 = cc in omega arith;
     }
   where
-    same : (f : Finding) → answer.Unmet g ≡ answer.Unmet f → g ∷ entries ≡ f ∷ entries
-    same f e = let z : g ≡ f = cc in ap (λ (x : Finding). x ∷ entries) z
-
-    head : (f : Finding) (rest : List Finding) → g ∷ entries ≡ f ∷ rest → g ≡ f
-    head f rest e = cc
+    same : (f : Finding) → answer.Unmet g ≡ answer.Unmet f → g ≡ f
+    same f e = cc
 
 pub answered-tells : (part : Contents → List Finding) (o : Outcome) (c : Contents) → o ≡ accepted c → Tells (part c) (answered part o)
 unfolding answered
@@ -247,19 +242,22 @@ list-says bytes before = said (read bytes)
     said (refused number offset) = record { holds = refl; unwritten = refl }
     said (accepted c) = fitting c (leb (length (packed c)) (length before)) refl
 
+list-said : (bytes before : List ℕ) (r : Listing) → list bytes (length before) ≡ r → Says (read bytes) before (list-buffer bytes before) r
+list-said bytes before r e = subst (Says (read bytes) before (list-buffer bytes before)) e (list-says bytes before)
+
 -- "Success returns the count and changes only that many entries, the first ones"
 pub list-success : (bytes before : List ℕ) (count : ℕ) → list bytes (length before) ≡ listing.Listed count
     → Success (read bytes) before (list-buffer bytes before) count
-list-success bytes before count e = subst (Says (read bytes) before (list-buffer bytes before)) e (list-says bytes before)
+list-success bytes before count = list-said bytes before (listing.Listed count)
 
 -- "50, after them, returns the entries needed. None writes anything."
 pub list-too-long : (bytes before : List ℕ) (needed : ℕ) → list bytes (length before) ≡ listing.NoRoom needed
     → TooLong (read bytes) before (list-buffer bytes before) needed
-list-too-long bytes before needed e = subst (Says (read bytes) before (list-buffer bytes before)) e (list-says bytes before)
+list-too-long bytes before needed = list-said bytes before (listing.NoRoom needed)
 
 pub list-turned-back : (bytes before : List ℕ) (number offset : ℕ) → list bytes (length before) ≡ listing.Refused number offset
     → TurnedBack (read bytes) before (list-buffer bytes before) number offset
-list-turned-back bytes before number offset e = subst (Says (read bytes) before (list-buffer bytes before)) e (list-says bytes before)
+list-turned-back bytes before number offset = list-said bytes before (listing.Refused number offset)
 
 -- and a list that there is room for is written
 pub list-writes : (bytes before : List ℕ) (c : Contents) → read bytes ≡ accepted c → length (packed c) ≤ length before

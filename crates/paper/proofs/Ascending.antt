@@ -1,7 +1,7 @@
 -- Ascending lists, and document order: two ascending lists with the same members are one, and so are two lists that hold exactly what is unmet.
 -- Assumes nothing.
 use mathlib.Core.Path.{_≡_, refl, sym, ap, _∙_, subst}
-use mathlib.Core.Logic.{_⊎_, ⊎-elim}
+use mathlib.Core.Logic.{⊎-elim}
 use mathlib.Core.List.{
   List,
   [],

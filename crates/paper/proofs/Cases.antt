@@ -5,8 +5,7 @@ use Prim.Native.Nat.{ℕ, zero, suc, _+_, _*_, _/_, _%_}
 use Prim.Native.String.{String}
 use mathlib.Core.Path.{_≡_, refl}
 use mathlib.Core.List.{List, [], _∷_, _++_, map}
-use lib.ListN.{take, replicate}
-use lib.ListN.{length}
+use lib.ListN.{length, take, replicate}
 use Rattle.paper.specs.declared.Arithmetic.{Arithmetic}
 use Rattle.paper.specs.declared.Arithmetic.the-variants.{Yes, No}
 use Rattle.paper.specs.declared.Listing.{Listing}
@@ -14,10 +13,14 @@ use Rattle.paper.specs.declared.Listing.the-variants.{Listed}
 use Rattle.paper.specs.declared.Verdict.{Verdict}
 use Rattle.paper.specs.declared.Verdict.the-variants.{Refused}
 use Rattle.paper.specs.Sets.{none, only, _∪_, _∩_, _∖_, outside, all-below, members}
-use Rattle.paper.specs.Record.{Kind, zeros, name-rest, is-name, precedes, fits, field-bytes, body-length, two-bytes, value, values, slot-of, kinds, node-kind, announced, body-bytes, ascii}
-use Rattle.paper.specs.TurnedAway.{verdict, nothing-read, in-order, full, refer, in-range, check, check-all, check-depth, read-format, last-name, read-name, add-node, read-node, read-end, read-body, read-record, read-on, read}
-use Rattle.paper.specs.Tree.{as-condition, as-term, as-arguments, as-items, as-binders, planted, trees, tree-at, root-no, root, size, term-size, arguments-size, items-size, binders-size}
-use Rattle.paper.specs.FreeAndRestricted.{named, is-sigil, binder-names, free, term-free, arguments-free, items-free, has-wildcard, items-wildcard, bare, about, ties, equality, tied, tied-name, direct, restricted, holds-sigil, term-sigil, arguments-sigil, items-sigil}
+use Rattle.paper.specs.Record.{Kind, zeros, name-rest, is-name, precedes, fits, field-bytes, body-length, two-bytes, value, values, slot-of, kinds, node-kind}
+use Rattle.paper.specs.Record.{announced, body-bytes, ascii}
+use Rattle.paper.specs.TurnedAway.{verdict, nothing-read, in-order, full, refer, in-range, check, check-all, check-depth, read-format, last-name, read-name}
+use Rattle.paper.specs.TurnedAway.{add-node, read-node, read-end, read-body, read-record, read-on, read}
+use Rattle.paper.specs.Tree.{as-condition, as-term, as-arguments, as-items, as-binders, planted, trees, tree-at, root-no, root, size, term-size, arguments-size}
+use Rattle.paper.specs.Tree.{items-size, binders-size}
+use Rattle.paper.specs.FreeAndRestricted.{named, is-sigil, binder-names, free, term-free, arguments-free, items-free, has-wildcard, items-wildcard, bare, about}
+use Rattle.paper.specs.FreeAndRestricted.{ties, equality, tied, tied-name, direct, restricted, holds-sigil, term-sigil, arguments-sigil, items-sigil}
 use Rattle.paper.specs.Places.{gather, at-cell, findings, spot-size, found-within, found}
 use Rattle.paper.specs.Scoping.{is-word, is-reserved, reserved, binder-sigil, cell-of, cells, scope-below, scope-broken, scoping-part}
 use Rattle.paper.specs.Demands.{closedness-broken, closedness-part, demands-part, demand-below, demand-broken, has-arith, operand-arith}

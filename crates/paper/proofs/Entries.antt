@@ -1,6 +1,6 @@
 -- What a broken rule finds at one place: its entries are what breaks it, ascending, and without their ranks its findings. Assumes nothing.
 use mathlib.Core.Path.{_≡_, refl, sym, ap, ap₂, _∙_, subst}
-use mathlib.Core.Logic.{_⊎_, inl, inr, ⊎-elim}
+use mathlib.Core.Logic.{inl, inr, ⊎-elim}
 use mathlib.Core.Bool.{Bool, true, false, cond}
 use mathlib.Core.Option.{Option, some, none as nothing}
 use mathlib.Core.List.{

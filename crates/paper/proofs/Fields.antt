@@ -1,8 +1,8 @@
 -- The fields of a node that passed: its references are below it, of their sorts and new, and its names are in the table. Assumes nothing.
-use mathlib.Core.Path.{_≡_, refl, sym, ap, _∙_, subst}
+use mathlib.Core.Path.{_≡_, refl, sym, ap, subst}
 use mathlib.Core.Bool.{Bool, true, false, not, _&&_, _||_, true≢false}
 use mathlib.Core.List.{List, [], _∷_, _++_}
-use Prim.Native.Nat.{ℕ, suc, _+_, _<_, _≤_, max}
+use Prim.Native.Nat.{ℕ, suc, _<_, _≤_, max}
 use native.Mathlib.Nat.{le-of-eq}
 use native.Mathlib.Omega.{arith}
 use lib.Dec.{eqb, leb, ltb}
@@ -10,12 +10,14 @@ use lib.ListN.{length, getD, drop}
 use borrow.Author.Tests.{ltb-true}
 use Rattle.paper.specs.declared.Slot.the-variants.{Name, Param, Binder}
 use Rattle.paper.specs.Sets.{Set, only, _∪_}
-use Rattle.paper.specs.Record.{pick, byte, second, two-bytes, Sort, condition, term, arguments, items, binders, fits, Field, to, name-number, symbol, octet, comparison-op, arith-op, slot, field-bytes, value, values, slot-of, name-no, Kind, kinds, format, name, end, node, node-kind, announced}
+use Rattle.paper.specs.Record.{pick, byte, second, two-bytes, Sort, condition, term, arguments, items, binders, fits, Field, to, name-number, symbol, octet}
+use Rattle.paper.specs.Record.{comparison-op, arith-op, slot, field-bytes, value, values, slot-of, name-no, Kind, kinds, format, name, end, node, node-kind}
+use Rattle.paper.specs.Record.{announced}
 use Rattle.paper.specs.TurnedAway.{Seen, unseen, SoFar, Checked, fault, fine, refer, in-range, check, check-all}
 use Rattle.paper.specs.declared.NodeNo.{NodeNo}
 use Rattle.paper.specs.Tree.{Tree, planted}
 use Rattle.paper.specs.Shape.{references, slot-names, names-in}
-use Rattle.paper.proofs.Walks.{All}
+use Rattle.paper.proofs.Walks.{All, all-append}
 use Rattle.paper.proofs.Weights.{of-sort}
 
 -- ---- what the fields say, by the table's rows
@@ -257,10 +259,6 @@ module _ (b : List ℕ) (so : SoFar) (fs : List Field) (d : ℕ) (u : Set) (e : 
       go true false true t g h = tt
       go true false false t g h = tt
       go false q r t g h = absurd (true≢false (sym h))
-
-all-append : {A : Type 0} (C : A → Type 0) (l m : List A) → All C l → All C m → All C (l ++ m)
-all-append C [] m p q = q
-all-append C (a ∷ l) m p q = (p .0, all-append C l m (p .1) q)
 
 pub passed : (fs : List Field) (b : List ℕ) (so : SoFar) (d : ℕ) (u : Set) (e : ℕ) (w : Set) → check-all fs b so d u ≡ fine e w → Passed fs b so d u e w
 unfolding check-all check field-references field-names values value field-bytes

@@ -2,9 +2,10 @@
 use mathlib.Core.Path.{_≡_, refl, sym, ap, ap₂, _∙_, fun-ext}
 use mathlib.Core.Bool.{Bool, true, false, _&&_, _||_, true≢false, or-false}
 use mathlib.Core.List.{List, [], _∷_, _++_}
-use Prim.Native.Nat.{ℕ, zero, suc, _+_, _-_, _<_, _≤_}
+use Prim.Native.Nat.{ℕ, zero, suc, _+_, _*_, _<_, _≤_}
 use native.Mathlib.Omega.{arith}
 use native.Mathlib.Decide.{ℕ-discrete}
+use native.Mathlib.Nat.{zero-mul, suc-mul}
 use lib.Dec.{eqb}
 use lib.ListN.{length, getD, List·getD-append}
 use borrow.Author.Tests.{eq-eqb, ne-eqb}
@@ -67,6 +68,11 @@ tree-more ns ms k h = trees-more ns ms (suc k) h k
 unfoldable pub sum : (ℕ → ℕ) → ℕ → ℕ
 sum w zero = 0
 sum w (suc n) = w n + sum w n
+
+pub sum-same : (x n : ℕ) → sum (λ k. x) n ≡ n * x
+unfolding sum
+sum-same x zero = sym (zero-mul x)
+sum-same x (suc n) = let h = sum-same x n in let z = suc-mul n x in omega arith
 
 -- of those among them that are not in the set
 unfoldable pub spare : (ℕ → ℕ) → ℕ → Set → ℕ

@@ -11,12 +11,13 @@ pub mod Fields
 pub mod Weights
 pub mod Forests
 pub mod WellFormed
-pub mod Lengths
+pub mod EachFound
 pub mod Sane
 pub mod SanePlaces
+pub mod Tallies
+pub mod Lengths
 pub mod Fitting
 pub mod Seed
-pub mod CellNames
 pub mod Once
 pub mod Parts
 pub mod Answers

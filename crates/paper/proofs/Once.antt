@@ -1,10 +1,11 @@
--- No packed number stands twice in a list. A number is counted in each part of the list, and weighed in the tree: a node weighs as many rules of the part as
--- the number names at it. What is found from a place has the number no more often than what stands there weighs, and the whole tree weighs one at most,
--- since each node stands in it once. Assumes nothing.
+-- No packed number stands twice in a list. For each number a node weighs one where the number is of a rule at that node. A part of the list then has the number
+-- no more often than the nodes weigh by the part's rules (Tallies.antt), and by all rules they weigh one at most: a number has one rule and one node.
+-- Assumes nothing.
 use mathlib.Core.Path.{_≡_, refl, sym, ap, _∙_, subst}
 use mathlib.Core.Logic.{⊎-elim}
-use mathlib.Core.Bool.{Bool, true, false, _||_}
-use mathlib.Core.List.{List, [], _∷_, _++_, map, map-append, map-map, List·Memᴰ, List·Memᴰ·head, List·Memᴰ·tail, List·Memᴰ·not-nil, List·Memᴰ·cases-cons, List·Memᴰ·eq-of-singleton, Memᴰ·of-map}
+use mathlib.Core.Bool.{Bool, true, false}
+use mathlib.Core.List.{List, [], _∷_, _++_, map, map-append, map-map}
+use mathlib.Core.List.{List·Memᴰ, List·Memᴰ·head, List·Memᴰ·tail, List·Memᴰ·not-nil, List·Memᴰ·cases-cons, List·Memᴰ·eq-of-singleton, Memᴰ·of-map}
 use Prim.Native.Nat.{ℕ, zero, suc, _+_, _*_, _-_, _/_, _<_, _≤_}
 use native.Mathlib.Omega.{arith}
 use native.Mathlib.Decide.{ℕ-discrete}
@@ -15,32 +16,22 @@ use borrow.Author.Tests.{eq-eqb, ne-eqb, eqb-true}
 use Rattle.paper.specs.declared.NodeNo.{NodeNo}
 use Rattle.paper.specs.declared.Subject.{Subject}
 use Rattle.paper.specs.declared.Subject.the-variants.{Name, NoName}
-use Rattle.paper.specs.declared.Slot.the-variants as slot
 use Rattle.paper.specs.declared.Finding.{Finding}
-use Rattle.paper.specs.declared.Tied.{Tied}
-use Rattle.paper.specs.declared.Tied.the-variants.{Left, Right, Neither}
-use Rattle.paper.specs.Sets.{Set, none, _∪_, _∩_, _∖_, members}
+use Rattle.paper.specs.Sets.{Set, none, members}
 use Rattle.paper.specs.Record.{pick}
 use Rattle.paper.specs.TurnedAway.{Contents}
-use Rattle.paper.specs.Tree.{Condition, Term, Binders, root-no, root}
-use Rattle.paper.specs.Tree.Condition.{And, Or, Not, Past, Since, Exists, Comparison, Predicate, Refine, Tp, Opaque}
-use Rattle.paper.specs.Tree.Term.{Var, Wildcard, Value, Sigil, Array, Arith, Sum, Count, AggregateCall}
-use Rattle.paper.specs.Tree.Arguments.{no-argument, argument}
-use Rattle.paper.specs.Tree.Items.{no-item, item}
-use Rattle.paper.specs.Tree.Binders.{no-binder, binder}
-use Rattle.paper.specs.FreeAndRestricted.{named, is-sigil, free, term-free, tied, restricted, holds-sigil}
-use Rattle.paper.specs.Places.{Spot, condition, operand, searched, searched-arguments, searched-items, Place, asked-at, Cell, Broken, itself, for-names, at-cells, Ascending, gather, at-cell, findings, found}
-use Rattle.paper.specs.Scoping.{reserved, binder-sigil, cell-of, cells, scope-below, scope-broken, scoping-part}
-use Rattle.paper.specs.Demands.{closedness-broken, closedness-part, comparison-broken, demand-below, demand-broken, demands-part}
+use Rattle.paper.specs.Tree.{root-no, root}
+use Rattle.paper.specs.FreeAndRestricted.{free}
+use Rattle.paper.specs.Places.{Cell, itself, for-names, Ascending, at-cell, findings}
+use Rattle.paper.specs.Scoping.{scoping-part}
+use Rattle.paper.specs.Demands.{closedness-broken, closedness-part, demands-part}
 use Rattle.paper.specs.TheList.{the-list, name-or-255, pack, packed}
 use Rattle.paper.proofs.Ascending.{asc-map}
 use Rattle.paper.proofs.Entries.{members-get, members-asc}
-use Rattle.paper.proofs.Walks.{All, extent, within, found-at}
-use Rattle.paper.proofs.Exact.{extent-pos, scope-shrinks, demand-shrinks}
-use Rattle.paper.proofs.Weights.{weigh, weigh-term, weigh-arguments, weigh-items, weigh-binders}
+use Rattle.paper.proofs.Walks.{picked}
 use Rattle.paper.proofs.Forests.{sum}
-use Rattle.paper.proofs.WellFormed.{WellFormed}
-use Rattle.paper.proofs.CellNames.{BindersKnown, CellsKnown, OperandKnown, cells-known}
+use Rattle.paper.proofs.WellFormed.{WellFormed, just}
+use Rattle.paper.proofs.Tallies.{Tally, scoping-tally, demands-tally}
 
 -- each stands once
 abbrev pub Distinct : List ℕ → Type 0
@@ -50,7 +41,7 @@ Distinct l = Ascending (λ a b. a ≡ b → ⊥) l
 
 abbrev times : ℕ → List ℕ → ℕ
 times v [] = 0
-times v (x ∷ l) = pick (eqb x v) 1 0 + times v l
+times v (x ∷ l) = just v x + times v l
 
 times-append : (v : ℕ) (a b : List ℕ) → times v (a ++ b) ≡ times v a + times v b
 times-append v [] b = omega arith
@@ -70,7 +61,7 @@ times-ascending : (v : ℕ) (l : List ℕ) (most : ℕ) → Ascending _<_ l → 
 times-ascending v [] most a h = omega arith
 times-ascending v (x ∷ l) most a h = go (times-ascending v l most (a .1) (λ y m. h y (List·Memᴰ·tail m))) (ℕ-discrete x v)
   where
-    go : times v l ≤ most → Dec (x ≡ v) → pick (eqb x v) 1 0 + times v l ≤ most
+    go : times v l ≤ most → Dec (x ≡ v) → just v x + times v l ≤ most
     go f (yes e) =
         let z = times-none v l (λ y m d. let q : x < y = a .0 y m in omega arith) in
         let k = h x (List·Memᴰ·head refl) e in
@@ -81,12 +72,11 @@ distinct-once : (l : List ℕ) → ((v : ℕ) → times v l ≤ 1) → Distinct 
 distinct-once [] h = tt
 distinct-once (x ∷ l) h = (
   λ b m e.
-      let p : times x (x ∷ l) ≤ 1 = h x in
-      let q : 1 ≤ times x l = subst (λ (z : ℕ). 1 ≤ times z l) (sym e) (times-member b l m) in
-      let r : pick (eqb x x) 1 0 + times x l ≤ 1 = p in
-      let s : 1 + times x l ≤ 1 = rw (eq-eqb x x refl) at r in
+      let again : 1 ≤ times x l = subst (λ (z : ℕ). 1 ≤ times z l) (sym e) (times-member b l m) in
+      let both : just x x + times x l ≤ 1 = h x in
+      let two : 1 + times x l ≤ 1 = rw (eq-eqb x x refl) at both in
       omega arith,
-  distinct-once l (λ v. let z : pick (eqb x v) 1 0 + times v l ≤ 1 = h v in omega arith),
+  distinct-once l (λ v. let z : just v x + times v l ≤ 1 = h v in omega arith),
 )
 
 -- ---- sums
@@ -127,57 +117,36 @@ unfolding sum
 sum-three f g h e zero l = omega arith
 sum-three f g h e (suc n) l = let a = l n in let b = sum-three f g h e n l in omega arith
 
--- ---- what stands at a place
-
-abbrev weigh-spot : Spot → (ℕ → ℕ) → ℕ
-weigh-spot (condition c) w = weigh c w
-weigh-spot (operand t) w = weigh-term t w
-weigh-spot (searched t) w = weigh-term t w
-weigh-spot (searched-arguments l) w = weigh-arguments l w
-weigh-spot (searched-items l) w = weigh-items l w
-
-abbrev SpotKnown : Spot → Type 0
-SpotKnown (condition c) = CellsKnown c
-SpotKnown (operand t) = OperandKnown t
-SpotKnown (searched t) = Unit {0}
-SpotKnown (searched-arguments l) = Unit {0}
-SpotKnown (searched-items l) = Unit {0}
-
 -- ---- what a number says of a node
 
 module _ (v : ℕ) where
   -- 1 where the number is this rule's at this node, whatever its name
   own : ℕ → ℕ → ℕ
-  own rule k = pick (eqb (v / 256) (rule * 65536 + k)) 1 0
+  own rule k = just (v / 256) (rule * 65536 + k)
 
   own-of : (rule k name : ℕ) → name < 256 → rule * 16777216 + k * 256 + name ≡ v → 1 ≤ own rule k
   unfolding own
-  own-of rule k name h e = let z : v / 256 ≡ rule * 65536 + k = omega arith in rw (eq-eqb (v / 256) (rule * 65536 + k) z) (omega arith)
+  own-of rule k name h e = let z : rule * 65536 + k ≡ v / 256 = omega arith in rw (eq-eqb (rule * 65536 + k) (v / 256) z) (omega arith)
 
   own-most : (rule k : ℕ) → own rule k ≤ 1
   unfolding own
-  own-most rule k = go (eqb (v / 256) (rule * 65536 + k))
-    where
-      go : (t : Bool) → pick t 1 0 ≤ 1
-      go true = omega arith
-      go false = omega arith
+  own-most rule k = picked (λ (n : ℕ). n ≤ 1) (eqb (rule * 65536 + k) (v / 256)) 1 0 (omega arith) (omega arith)
 
-  own-says : (rule k : ℕ) → 1 ≤ own rule k → v / 256 ≡ rule * 65536 + k
+  own-says : (rule k : ℕ) → 1 ≤ own rule k → rule * 65536 + k ≡ v / 256
   unfolding own
-  own-says rule k = go (eqb (v / 256) (rule * 65536 + k)) refl
+  own-says rule k = go (eqb (rule * 65536 + k) (v / 256)) refl
     where
-      go : (t : Bool) → eqb (v / 256) (rule * 65536 + k) ≡ t → 1 ≤ pick t 1 0 → v / 256 ≡ rule * 65536 + k
-      go true e h = eqb-true (v / 256) (rule * 65536 + k) e
+      go : (t : Bool) → eqb (rule * 65536 + k) (v / 256) ≡ t → 1 ≤ pick t 1 0 → rule * 65536 + k ≡ v / 256
+      go true e h = eqb-true (rule * 65536 + k) (v / 256) e
       go false e h = absurd (omega arith)
 
-  -- the rules of the three parts
+  -- the rules of scoping and of the demands, and all rules
   scoped : ℕ → ℕ
   scoped k = own 20 k + own 21 k + own 22 k + own 23 k + own 24 k + own 25 k + own 26 k + own 27 k
 
   demanded : ℕ → ℕ
   demanded k = own 30 k + own 31 k + own 32 k
 
-  -- all rules
   held : ℕ → ℕ
   held k = sum (λ rule. own rule k) 33
 
@@ -188,8 +157,7 @@ module _ (v : ℕ) where
   held-most : (k : ℕ) → held k ≤ 1
   unfolding held
   held-most k =
-      sum-once (λ rule. own rule k) 33 (λ rule. own-most rule k)
-      (λ i j a b c d. let x = own-says i k c in let y = own-says j k d in omega arith)
+      sum-once (λ rule. own rule k) 33 (λ rule. own-most rule k) (λ i j a b c d. let x = own-says i k c in let y = own-says j k d in omega arith)
 
   -- nodes are few, so that no two of them are one number's
   held-once : (nodes : ℕ) → nodes ≤ 512 → sum held nodes ≤ 1
@@ -231,229 +199,42 @@ module _ (v : ℕ) where
 
   often-cell : (rule : ℕ) (s : Set) (c : Cell) → c .name .0 < 128 → often (at-cell rule s c) ≤ own rule (c .node .0)
   unfolding at-cell
-  often-cell rule s c h = go (s (c .name .0))
-    where
-      go : (t : Bool) → often (pick t (record { rule = rule; node = c .node; name = Name (c .name) } ∷ []) []) ≤ own rule (c .node .0)
-      go true = often-one rule (c .node) (Name (c .name)) (unfold name-or-255 in omega arith)
-      go false = omega arith
+  often-cell rule s c h =
+      picked (λ (l : List Finding). often l ≤ own rule (c .node .0)) (s (c .name .0)) _ []
+      (often-one rule (c .node) (Name (c .name)) (unfold name-or-255 in omega arith)) (omega arith)
 
-  often-cells : (rule : ℕ) (s : Set) (l : Binders) → BindersKnown l → often (findings (at-cells rule s (cells l))) ≤ weigh-binders l (own rule)
-  unfolding findings gather cells cell-of weigh
-  often-cells rule s (no-binder n) h = omega arith
-  often-cells rule s (binder n (slot.Name x) y l) h =
-      let z = often-cells rule s l (h .1) in
-      let c = often-cell rule s (record { node = n; name = x }) (h .0 .0) in
-      let d = often-append (at-cell rule s (record { node = n; name = x })) (findings (at-cells rule s (cells l))) in
-      omega arith
-  often-cells rule s (binder n (slot.Param k) y l) h = let z = often-cells rule s l (h .1) in omega arith
-  often-cells rule s (binder n (slot.Binder k) y l) h = let z = often-cells rule s l (h .1) in omega arith
-
-  -- what is broken at a place
-  abbrev tally : List Broken → ℕ
-  tally [] = 0
-  tally (b ∷ bs) = often (findings b) + tally bs
-
-  often-broken : (bs : List Broken) → often (gather findings bs) ≡ tally bs
-  unfolding gather
-  often-broken [] = refl
-  often-broken (b ∷ bs) = let x = often-append (findings b) (gather findings bs) in let y = often-broken bs in omega arith
-
-  -- ---- a walk
-
-  module _ (w : ℕ → ℕ) where
-    abbrev load : List Place → ℕ
-    load [] = 0
-    load (q ∷ qs) = weigh-spot (q .spot) w + load qs
-
-    -- what is asked of a walk at a place: the names of the cells below are known, and the number is broken there no more often than the place outweighs those below
-    abbrev Light : (Place → List Place) → (Place → List Broken) → Place → Type 0
-    Light below broken p = All (λ q. SpotKnown (q .spot)) (below p) × (tally (broken p) + load (below p) ≤ weigh-spot (p .spot) w)
-
-    light-below : (f : Place → List Finding) (qs : List Place) → All (λ q. SpotKnown (q .spot) → often (f q) ≤ weigh-spot (q .spot) w) qs
-        → All (λ q. SpotKnown (q .spot)) qs → often (gather f qs) ≤ load qs
-    unfolding gather
-    light-below f [] a h = omega arith
-    light-below f (q ∷ qs) a h =
-        let x = often-append (f q) (gather f qs) in
-        let y = a .0 (h .0) in
-        let z = light-below f qs (a .1) (h .1) in
-        omega arith
-
-    light-walk : (below : Place → List Place) (broken : Place → List Broken) → ((p : Place) → All (λ q. extent q < extent p) (below p))
-        → ((p : Place) → SpotKnown (p .spot) → Light below broken p)
-        → (p : Place) → SpotKnown (p .spot) → often (found below broken p) ≤ weigh-spot (p .spot) w
-    light-walk below broken shrinks light p =
-        within below broken extent-pos shrinks (λ q. SpotKnown (q .spot) → often (found below broken q) ≤ weigh-spot (q .spot) w)
-        (λ q a h.
-        let l = light q h in
-        let x = ap often (found-at below broken extent-pos shrinks q) ∙ often-append (gather findings (broken q)) (gather (found below broken) (below q)) in
-        let t = often-broken (broken q) in
-        let y = light-below (found below broken) (below q) a (l .0) in
-        let z = l .1 in
-        omega arith)
-        (extent p) p (omega arith)
-
-  -- ---- scoping
-
-  scoped-is : (k : ℕ) → scoped k ≡ own 20 k + own 21 k + own 22 k + own 23 k + own 24 k + own 25 k + own 26 k + own 27 k
-  unfolding scoped
-  scoped-is k = refl
-
-  binders-light : (l : Binders) → weigh-binders l (own 22) + weigh-binders l (own 26) + weigh-binders l (own 27) ≤ weigh-binders l scoped
-  unfolding weigh
-  binders-light (no-binder n) = let z = scoped-is (n .0) in omega arith
-  binders-light (binder n s y l) = let z = scoped-is (n .0) in let y = binders-light l in omega arith
-
-  aggregate-light : (skipped : Bool) (words summed unbound unfree loose scope : Set) (n : NodeNo) (l : Binders) (b : Condition) → BindersKnown l → CellsKnown b
-      → All (λ q. SpotKnown (q .spot)) (pick skipped [] (asked-at (condition b) scope ∷ []))
-      × (tally
-      (pick skipped []
-      (at-cells 22 words (cells l) ∷ for-names 24 n summed ∷ for-names 25 n unbound ∷ at-cells 26 unfree (cells l) ∷ at-cells 27 loose (cells l) ∷ []))
-      + load scoped (pick skipped [] (asked-at (condition b) scope ∷ []))
-      ≤ scoped (n .0) + (weigh-binders l scoped + weigh b scoped))
-  aggregate-light true words summed unbound unfree loose scope n l b h k = (tt, omega arith)
-  aggregate-light false words summed unbound unfree loose scope n l b h k = (
-    (k, tt),
-    omega (
-      arith,
-      often-cells 22 words l h,
-      often-names 24 n summed,
-      often-names 25 n unbound,
-      often-cells 26 unfree l h,
-      often-cells 27 loose l h,
-      scoped-is (n .0),
-      binders-light l,
-    ),
-  )
-
-  scope-light : (words : Set) (s : Spot) (names : Set) (asked : Bool) → SpotKnown s
-      → Light scoped scope-below (scope-broken words) (record { spot = s; names = names; asked = asked })
-  unfolding scope-below scope-broken weigh
-  scope-light words (condition (And n l r)) s a h = ((h .0, (h .1, tt)), omega arith)
-  scope-light words (condition (Or n l r)) s a h = ((h .0, (h .1, tt)), omega arith)
-  scope-light words (condition (Not n b)) s a h = ((h, tt), omega arith)
-  scope-light words (condition (Past n k b x)) s a h = ((h, tt), omega arith)
-  scope-light words (condition (Since n l r x)) s a h = ((h .0, (h .1, tt)), omega arith)
-  scope-light words (condition (Exists n v y b)) s a h =
-      ((h, tt), omega (arith, scoped-is (n .0), often-names 22 n (named v ∩ words), often-names 23 n (pick (holds-sigil b) none (named v ∖ restricted b))))
-  scope-light words (condition (Comparison n o l r)) s a h = ((h .0, (h .1, tt)), omega arith)
-  scope-light words (condition (Predicate n y l)) s a h = ((tt, tt), omega arith)
-  scope-light words (condition (Refine n b l)) s a h = ((h, tt), omega arith)
-  scope-light words (condition (Tp n v)) s a h = (tt, omega (arith, scoped-is (n .0), often-names 22 n (named v ∩ words)))
-  scope-light words (condition (Opaque n k y)) s a h = (tt, omega arith)
-  scope-light words (operand (Var n x)) s a h = (tt, omega arith)
-  scope-light words (operand (Wildcard n)) s a h = (tt, omega arith)
-  scope-light words (operand (Value n k y)) s a h = (tt, omega arith)
-  scope-light words (operand (Sigil n k i)) s a h = (tt, omega arith)
-  scope-light words (operand (Array n l)) s a h = ((tt, tt), omega arith)
-  scope-light words (operand (Arith n o l r)) s a h = ((h .0, (h .1, tt)), omega arith)
-  scope-light words (operand (Sum n v l b)) s a h = aggregate-light (is-sigil v || binder-sigil l) words _ _ _ _ _ n l b (h .0) (h .1)
-  scope-light words (operand (Count n l b)) s a h = aggregate-light (false || binder-sigil l) words _ _ _ _ _ n l b (h .0) (h .1)
-  scope-light words (operand (AggregateCall n y)) s a h = (tt, omega arith)
-  scope-light words (searched (Var n x)) s a h = (tt, omega arith)
-  scope-light words (searched (Wildcard n)) s a h = (tt, omega arith)
-  scope-light words (searched (Value n k y)) s a h = (tt, omega arith)
-  scope-light words (searched (Sigil n k i)) s a h = (tt, omega arith)
-  scope-light words (searched (Array n l)) s a h = ((tt, tt), omega arith)
-  scope-light words (searched (Arith n o l r)) s a h = (tt, omega (arith, scoped-is (n .0), often-itself 21 n))
-  scope-light words (searched (Sum n v l b)) s a h = (tt, omega (arith, scoped-is (n .0), often-itself 20 n))
-  scope-light words (searched (Count n l b)) s a h = (tt, omega (arith, scoped-is (n .0), often-itself 20 n))
-  scope-light words (searched (AggregateCall n y)) s a h = (tt, omega (arith, scoped-is (n .0), often-itself 20 n))
-  scope-light words (searched-arguments (no-argument n)) s a h = (tt, omega arith)
-  scope-light words (searched-arguments (argument n f t l)) s a h = ((tt, (tt, tt)), omega arith)
-  scope-light words (searched-items (no-item n)) s a h = (tt, omega arith)
-  scope-light words (searched-items (item n t l)) s a h = ((tt, (tt, tt)), omega arith)
-
-  -- ---- demands
-
-  demanded-is : (k : ℕ) → demanded k ≡ own 30 k + own 31 k + own 32 k
-  unfolding demanded
-  demanded-is k = refl
-
-  comparison-light : (n : NodeNo) (l r : Term) (ties : Set) (t : Tied) → tally (comparison-broken n l r ties t) ≤ demanded (n .0)
-  comparison-light n l r ties (Left x) = omega (arith, demanded-is (n .0), often-names 30 n (term-free r ∖ ties))
-  comparison-light n l r ties (Right x) = omega (arith, demanded-is (n .0), often-names 30 n (term-free l ∖ ties))
-  comparison-light n l r ties Neither = omega (arith, demanded-is (n .0), often-names 31 n ((term-free l ∪ term-free r) ∖ ties))
-
-  asked-light : (s : Spot) (names : Set) → SpotKnown s → Light demanded demand-below demand-broken (asked-at s names)
-  unfolding demand-below demand-broken weigh
-  asked-light (condition (And n l r)) s h = ((h .0, (h .1, tt)), omega arith)
-  asked-light (condition (Or n l r)) s h = ((h .0, (h .1, tt)), omega arith)
-  asked-light (condition (Not n b)) s h =
-      ((h, tt), omega (arith, demanded-is (n .0), often-names 31 n (free b ∖ s)))
-  asked-light (condition (Past n k b x)) s h = ((h, tt), omega arith)
-  asked-light (condition (Since n l r x)) s h =
-      ((h .0, (h .1, tt)), omega (arith, demanded-is (n .0), often-names 32 n (free l ∖ (s ∪ restricted r))))
-  asked-light (condition (Exists n v y b)) s h = ((h, tt), omega arith)
-  asked-light (condition (Comparison n o l r)) s h =
-      ((h .0, (h .1, tt)), omega (arith, comparison-light n l r s (tied o l r)))
-  asked-light (condition (Predicate n y l)) s h = (tt, omega arith)
-  asked-light (condition (Refine n b l)) s h = ((h, tt), omega arith)
-  asked-light (condition (Tp n v)) s h = (tt, omega arith)
-  asked-light (condition (Opaque n k y)) s h = (tt, omega arith)
-  asked-light (operand (Var n x)) s h = (tt, omega arith)
-  asked-light (operand (Wildcard n)) s h = (tt, omega arith)
-  asked-light (operand (Value n k y)) s h = (tt, omega arith)
-  asked-light (operand (Sigil n k i)) s h = (tt, omega arith)
-  asked-light (operand (Array n l)) s h = (tt, omega arith)
-  asked-light (operand (Arith n o l r)) s h = ((h .0, (h .1, tt)), omega arith)
-  asked-light (operand (Sum n v l b)) s h = ((h .1, tt), omega arith)
-  asked-light (operand (Count n l b)) s h = ((h .1, tt), omega arith)
-  asked-light (operand (AggregateCall n y)) s h = (tt, omega arith)
-  asked-light (searched t) s h = (tt, omega arith)
-  asked-light (searched-arguments l) s h = (tt, omega arith)
-  asked-light (searched-items l) s h = (tt, omega arith)
-
-  -- what is not asked breaks nothing
-  demand-light : (s : Spot) (names : Set) (asked : Bool) → SpotKnown s
-      → Light demanded demand-below demand-broken (record { spot = s; names = names; asked = asked })
-  unfolding demand-below demand-broken
-  demand-light s names true h = asked-light s names h
-  demand-light s names false h = let l = asked-light s names h in (l .0, omega (arith, l .1))
+  by-number : Tally
+  by-number =
+      record {
+        of = often;
+        of-none = refl;
+        of-both = often-append;
+        most = own;
+        most-at-cell = own;
+        itself-most = often-itself;
+        names-most = often-names;
+        cell-most = often-cell;
+      }
 
   -- ---- the list
 
-  scoping-light : (c : Contents) → WellFormed c → (seed : Set) → often (scoping-part c seed) ≤ sum scoped (length (c .nodes))
-  unfolding scoping-part
-  scoping-light c f seed =
-      subst (λ (m : ℕ). often (found scope-below (scope-broken (reserved (c .names))) (asked-at (condition (root c)) seed)) ≤ m) (f .whole scoped)
-      (light-walk scoped scope-below (scope-broken (reserved (c .names))) scope-shrinks
-      (λ p. scope-light (reserved (c .names)) (p .spot) (p .names) (p .asked)) (asked-at (condition (root c)) seed) (cells-known c f))
-
-  closedness-light : (c : Contents) → WellFormed c → often (closedness-part c) ≤ sum (own 28) (length (c .nodes))
-  unfolding closedness-part closedness-broken root-no
-  closedness-light c f =
-      let x = often-names 28 (root-no c) (free (root c)) in
-      let y = f .some-node in
-      let z = sum-least (own 28) (length (c .nodes)) (length (c .nodes) - 1) (omega arith) in
-      omega arith
-
-  demands-light : (c : Contents) → WellFormed c → often (demands-part c) ≤ sum demanded (length (c .nodes))
-  unfolding demands-part
-  demands-light c f = go (holds-sigil (root c))
-    where
-      go : (t : Bool) → often (pick t [] (found demand-below demand-broken (asked-at (condition (root c)) none))) ≤ sum demanded (length (c .nodes))
-      go true = omega arith
-      go false =
-          subst (λ (m : ℕ). often (found demand-below demand-broken (asked-at (condition (root c)) none)) ≤ m) (f .whole demanded)
-          (light-walk demanded demand-below demand-broken demand-shrinks (λ p. demand-light (p .spot) (p .names) (p .asked))
-          (asked-at (condition (root c)) none) (cells-known c f))
-
-  list-light : (c : Contents) → WellFormed c → times v (packed c) ≤ 1
-  unfolding packed the-list
-  list-light c f =
+  number-once : (c : Contents) → WellFormed c → times v (packed c) ≤ 1
+  unfolding packed the-list by-number closedness-part closedness-broken root-no
+  number-once c f =
       let n = length (c .nodes) in
-      let a = often-append (scoping-part c none) (closedness-part c ++ demands-part c) in
-      let b = often-append (closedness-part c) (demands-part c) in
+      let some = f .some-node in
       omega (
         arith,
-        scoping-light c f none,
-        closedness-light c f,
-        demands-light c f,
+        often-append (scoping-part c none) (closedness-part c ++ demands-part c),
+        often-append (closedness-part c) (demands-part c),
+        scoping-tally by-number scoped (λ k. unfold scoped in omega arith) c f none,
+        often-names 28 (root-no c) (free (root c)),
+        sum-least (own 28) n (n - 1) (omega arith),
+        demands-tally by-number demanded (λ k. unfold demanded in omega arith) c f,
         sum-three scoped (own 28) demanded held n parts-held,
         held-once n (f .few-nodes),
       )
 
 -- the theorem
 pub once-each : (c : Contents) → WellFormed c → Distinct (packed c)
-once-each c f = distinct-once (packed c) (λ v. list-light v c f)
+once-each c f = distinct-once (packed c) (λ v. number-once v c f)

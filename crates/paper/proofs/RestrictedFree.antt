@@ -45,21 +45,20 @@ both-within a b c f g k e = go (a k) refl e
     go true d e = f k d
     go false d e = g k e
 
-less-within : (a b c : Set) → Within a b → Within (a ∖ c) (b ∖ c)
+minus-get : (a c : Set) (k : ℕ) → (a ∖ c) k ≡ true → a k ≡ true
 unfolding _∖_
-less-within a b c f k e = go (a k) refl e
+minus-get a c k e = go (a k) e
   where
-    go : (x : Bool) → a k ≡ x → (x && not (c k)) ≡ true → (b k && not (c k)) ≡ true
-    go true d e = ap (λ (x : Bool). x && not (c k)) (f k d) ∙ e
-    go false d e = absurd (true≢false (sym e))
+    go : (x : Bool) → (x && not (c k)) ≡ true → x ≡ true
+    go true d = refl
+    go false d = d
 
 pub minus-within : (a b c : Set) → Within a b → Within (a ∖ c) b
+minus-within a b c f k e = f k (minus-get a c k e)
+
+less-within : (a b c : Set) → Within a b → Within (a ∖ c) (b ∖ c)
 unfolding _∖_
-minus-within a b c f k e = go (a k) refl e
-  where
-    go : (x : Bool) → a k ≡ x → (x && not (c k)) ≡ true → b k ≡ true
-    go true d e = f k d
-    go false d e = absurd (true≢false (sym e))
+less-within a b c f k e = let d = minus-get a c k e in ap (λ (x : Bool). x && not (c k)) (f k d ∙ sym d) ∙ e
 
 -- ---- terms
 
@@ -79,12 +78,14 @@ direct-free : (l : Arguments) → Within (direct l) (arguments-free l)
 unfolding direct term-free
 direct-free (no-argument n) = λ k e. e
 direct-free (argument n f t l) =
-    both-within (about (bare t)) (direct l) _ (left-within _ (term-free t) (arguments-free l) (bare-free t)) (right-within _ (term-free t) (arguments-free l) (direct-free l))
+    both-within (about (bare t)) (direct l) _ (left-within _ (term-free t) (arguments-free l) (bare-free t))
+    (right-within _ (term-free t) (arguments-free l) (direct-free l))
 
 -- a tied name is a bare variable of one side
 tied-free : (o : ℕ) (l r : Term) → Within (tied-name (tied o l r)) (term-free l ∪ term-free r)
 unfolding tied equality tied-name about
-tied-free o l r = go (eqb o 0) (bare l) (bare r) (ties l) (ties r) (left-within _ (term-free l) (term-free r) (bare-free l)) (right-within _ (term-free l) (term-free r) (bare-free r))
+tied-free o l r =
+    go (eqb o 0) (bare l) (bare r) (ties l) (ties r) (left-within _ (term-free l) (term-free r) (bare-free l)) (right-within _ (term-free l) (term-free r) (bare-free r))
   where
     go : (b : Bool) (p q : Subject) (s t : Bool) → Within (about p) (term-free l ∪ term-free r) → Within (about q) (term-free l ∪ term-free r)
         → Within (tied-name (pick b (equality p q s t) Neither)) (term-free l ∪ term-free r)

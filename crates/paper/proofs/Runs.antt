@@ -3,14 +3,15 @@
 use mathlib.Core.Path.{_≡_, refl, sym, ap, _∙_, subst}
 use mathlib.Core.Bool.{Bool, true, false, _&&_, true≢false}
 use mathlib.Core.List.{List, [], _∷_, _++_, map}
-use Prim.Native.Nat.{ℕ, zero, suc, _+_, _-_, _≤_, _<_}
+use Prim.Native.Nat.{ℕ, zero, suc, _+_, _-_, _<_}
 use native.Mathlib.Omega.{arith}
 use lib.Dec.{eqb, leb}
 use lib.ListN.{length, take, drop, getD}
 use lib.Seq.{drop-drop}
 use borrow.Author.Tests.{leb-false, eqb-true, eq-eqb}
 use Rattle.paper.specs.Sets.{Set, all-below}
-use Rattle.paper.specs.Record.{pick, most-names, name-bytes, most-nodes, is-name, precedes, byte, two-bytes, condition, fits, values, Kind, Announced, format, name, end, unknown, node, announced, body-bytes}
+use Rattle.paper.specs.Record.{pick, most-names, name-bytes, most-nodes, is-name, precedes, byte, two-bytes, condition, fits, values}
+use Rattle.paper.specs.Record.{Kind, Announced, format, name, end, unknown, node, announced, body-bytes}
 use Rattle.paper.specs.TurnedAway.{
   Contents,
   Outcome,

@@ -14,7 +14,8 @@ use Rattle.paper.specs.declared.Node.the-variants as node
 use Rattle.paper.specs.Record.{Sort, condition, term, arguments, items, binders, node-no}
 use Rattle.paper.specs.TurnedAway.{Contents}
 use Rattle.paper.specs.Tree as tree
-use Rattle.paper.specs.Tree.{Condition, Term, Arguments, Items, Binders, Tree, a-condition, a-term, an-end, as-condition, as-term, as-arguments, as-items, as-binders, planted, trees, tree-at, root-no, root}
+use Rattle.paper.specs.Tree.{Condition, Term, Arguments, Items, Binders, Tree, a-condition, a-term, an-end}
+use Rattle.paper.specs.Tree.{as-condition, as-term, as-arguments, as-items, as-binders, planted, trees, tree-at, root-no, root}
 use Rattle.paper.specs.Tree.Condition.{And, Or, Not, Past, Since, Exists, Comparison, Predicate, Refine, Tp, Opaque}
 use Rattle.paper.specs.Tree.Term.{Var, Wildcard, Value, Sigil, Array, Arith, Sum, Count, AggregateCall}
 use Rattle.paper.specs.Tree.Arguments.{no-argument, argument}
@@ -161,8 +162,8 @@ module _ (N M : ℕ) where
     abbrev tree-of : ℕ → Tree
     tree-of i = tree-at (c .nodes) i
 
-    first : 0 < N
-    first = let z = f .some-node in omega arith
+    zero-fits : 0 < N
+    zero-fits = let z = f .some-node in omega arith
 
     -- node i's tree, where all before it are sane
     tree-sane : (i : ℕ) → i < length (c .nodes) → ((j : ℕ) → j < i → SaneTree (tree-of j)) → SaneTree (tree-of i)
@@ -171,7 +172,7 @@ module _ (N M : ℕ) where
         (planted-sane (trees (c .nodes) i) (node-no i) (getD (c .nodes) i node.ListEnd) (omega arith)
         (all-map
         (λ p (l : p .1 < i).
-        subst (SaneAs (p .0)) (sym (tree-same (c .nodes) i (p .1) l)) (sane-as first (p .0) (tree-of (p .1)) (before (p .1) l)))
+        subst (SaneAs (p .0)) (sym (tree-same (c .nodes) i (p .1) l)) (sane-as zero-fits (p .0) (tree-of (p .1)) (before (p .1) l)))
         (references (getD (c .nodes) i node.ListEnd)) (f .sound i h .below))
         (all-map (λ x (l : x < length (c .names)). let z : x < M = omega arith in z) (names-in (getD (c .nodes) i node.ListEnd)) (f .sound i h .known)))
 
@@ -183,7 +184,7 @@ module _ (N M : ℕ) where
     unfolding root root-no
     sane-within =
         let z = f .some-node in
-        sane-as first condition (tree-of (root-no c .0)) (trees-sane (length (c .nodes)) (root-no c .0) (omega arith) (omega arith))
+        sane-as zero-fits condition (tree-of (root-no c .0)) (trees-sane (length (c .nodes)) (root-no c .0) (omega arith) (omega arith))
 
 pub sane-root : (c : Contents) → WellFormed c → Sane 512 (length (c .names)) (root c)
 sane-root c f = sane-within 512 (length (c .names)) c f (f .few-nodes) (omega arith)

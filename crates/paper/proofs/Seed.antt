@@ -26,11 +26,11 @@ use Rattle.paper.specs.Places.{Spot, condition, operand, searched, searc
 use Rattle.paper.specs.Scoping.{reserved, binder-sigil, scope-below, scope-broken, scoping-part}
 use Rattle.paper.specs.Questions.{first, answered, scoping}
 use Rattle.paper.proofs.RestrictedFree.{Within, none-within, both-within, minus-within}
-use Rattle.paper.proofs.Walks.{All, extent, within, found-at}
+use Rattle.paper.proofs.Walks.{All, extent, found-at, found-by}
 use Rattle.paper.proofs.Exact.{at, extent-pos, scope-shrinks}
 use Rattle.paper.proofs.WellFormed.{WellFormed, well-formed}
 use Rattle.paper.proofs.Sane.{Sane, SaneTerm, SaneArguments, SaneItems, sane-root}
-use Rattle.paper.proofs.SanePlaces.{SanePlace}
+use Rattle.paper.proofs.SanePlaces.{SanePlace, scope-below-sane}
 
 -- ---- the free names of a sane tree are names of the table
 
@@ -97,20 +97,19 @@ gather-same R f (p ∷ ps) [] a r = absurd r
 gather-same R f (p ∷ ps) (q ∷ qs) a r = ap₂ {C = List Finding} _++_ (a .0 q (r .0)) (gather-same R f ps qs (a .1) (r .1))
 
 -- related places break the same rules and lead to related places: then the same is found from both
-module _ (under : Place → List Place) (broken : Place → List Broken) (shrinks : (p : Place) → All (λ q. extent q < extent p) (under p))
-    (R : Place → Place → Type 0) (same : (p q : Place) → R p q → broken p ≡ broken q) (goes-down : (p q : Place) → R p q → Pairs R (under p) (under q)) where
-  pub found-same : (p q : Place) → R p q → found under broken p ≡ found under broken q
-  found-same p =
-      within under broken extent-pos shrinks (λ p. (q : Place) → R p q → found under broken p ≡ found under broken q)
-      (λ p a q r.
-      found-at under broken extent-pos shrinks p
-      ∙ ap₂ {C = List Finding} _++_ (ap (gather findings) (same p q r)) (gather-same R (found under broken) (under p) (under q) a (goes-down p q r))
+module _ (under : Place → List Place) (broken : Place → List Broken) (shrinks : (p : Place) → All (λ q. extent q < extent p) (under p)) (Holds : Place → Type 0)
+    (goes-down : (p : Place) → Holds p → All Holds (under p)) (R : Place → Place → Type 0) (same : (p q : Place) → Holds p → R p q → broken p ≡ broken q)
+    (leads : (p q : Place) → R p q → Pairs R (under p) (under q)) where
+  found-same : (p : Place) → Holds p → (q : Place) → R p q → found under broken p ≡ found under broken q
+  found-same =
+      found-by under broken extent-pos shrinks Holds goes-down (λ p l. (q : Place) → R p q → l ≡ found under broken q)
+      (λ p h a q r.
+      ap₂ {C = List Finding} _++_ (ap (gather findings) (same p q h r)) (gather-same R (found under broken) (under p) (under q) a (leads p q r))
       ∙ sym (found-at under broken extent-pos shrinks q))
-      (extent p) p (omega arith)
 
 -- ---- scoping from two seeds
 
-module _ (N M : ℕ) where
+module _ (M : ℕ) where
   abbrev Agree : Set → Set → Type 0
   Agree a b = (x : ℕ) → x < M → a x ≡ b x
 
@@ -127,12 +126,12 @@ module _ (N M : ℕ) where
       go x true e = ap (λ (z : Bool). not (z || c x)) (g x (ltb-true x M (f x e)))
       go x false e = refl
 
-  -- the same spot of a sane tree, once from each seed
+  -- the same spot, once from each seed
   data Reseeded : Place → Place → Type 0 where
-    again : {s : Spot} {a b : Set} {k : Bool} → SanePlace N M (at s a k) → Agree a b → Reseeded (at s a k) (at s b k)
+    again : {s : Spot} {a b : Set} {k : Bool} → Agree a b → Reseeded (at s a k) (at s b k)
 
   -- the scope is looked at by rule 25 alone
-  broken-same : (words : Set) (s : Spot) (a b : Set) (k : Bool) → SanePlace N M (at s a k) → Agree a b → scope-broken words (at s a k) ≡ scope-broken words (at s b k)
+  broken-same : (words : Set) (s : Spot) (a b : Set) (k : Bool) → SanePlace 512 M (at s a k) → Agree a b → scope-broken words (at s a k) ≡ scope-broken words (at s b k)
   unfolding scope-broken
   broken-same words (condition c) a b k h g = refl
   broken-same words (operand (Var n x)) a b k h g = refl
@@ -141,8 +140,8 @@ module _ (N M : ℕ) where
   broken-same words (operand (Sigil n y i)) a b k h g = refl
   broken-same words (operand (Array n l)) a b k h g = refl
   broken-same words (operand (Arith n o l r)) a b k h g = refl
-  broken-same words (operand (Sum n v l c)) a b k h g = rw (outside-same (free c) a b (binder-names l) (free-within N M c (h .3)) g)
-  broken-same words (operand (Count n l c)) a b k h g = rw (outside-same (free c) a b (binder-names l) (free-within N M c (h .2)) g)
+  broken-same words (operand (Sum n v l c)) a b k h g = rw (outside-same (free c) a b (binder-names l) (free-within 512 M c (h .3)) g)
+  broken-same words (operand (Count n l c)) a b k h g = rw (outside-same (free c) a b (binder-names l) (free-within 512 M c (h .2)) g)
   broken-same words (operand (AggregateCall n y)) a b k h g = refl
   broken-same words (searched t) a b k h g = refl
   broken-same words (searched-arguments l) a b k h g = refl
@@ -152,55 +151,55 @@ module _ (N M : ℕ) where
   pairs-pick true ps qs r = tt
   pairs-pick false ps qs r = r
 
-  below-same : (s : Spot) (a b : Set) (k : Bool) → SanePlace N M (at s a k) → Agree a b → Pairs Reseeded (scope-below (at s a k)) (scope-below (at s b k))
+  below-same : (s : Spot) (a b : Set) (k : Bool) → Agree a b → Pairs Reseeded (scope-below (at s a k)) (scope-below (at s b k))
   unfolding scope-below
-  below-same (condition (And n l r)) a b k h g = (again (h .1) g, (again (h .2) g, tt))
-  below-same (condition (Or n l r)) a b k h g = (again (h .1) g, (again (h .2) g, tt))
-  below-same (condition (Not n c)) a b k h g = (again (h .1) g, tt)
-  below-same (condition (Past n y c w)) a b k h g = (again (h .1) g, tt)
-  below-same (condition (Since n l r w)) a b k h g = (again (h .1) g, (again (h .2) g, tt))
-  below-same (condition (Exists n v y c)) a b k h g = (again (h .2) (agree-join a b (named v) g), tt)
-  below-same (condition (Comparison n o l r)) a b k h g = (again (h .1) g, (again (h .2) g, tt))
-  below-same (condition (Predicate n y l)) a b k h g = (again (h .1) g, tt)
-  below-same (condition (Refine n c l)) a b k h g = (again (h .1) g, tt)
-  below-same (condition (Tp n v)) a b k h g = tt
-  below-same (condition (Opaque n y z)) a b k h g = tt
-  below-same (operand (Var n x)) a b k h g = tt
-  below-same (operand (Wildcard n)) a b k h g = tt
-  below-same (operand (Value n y z)) a b k h g = tt
-  below-same (operand (Sigil n y i)) a b k h g = tt
-  below-same (operand (Array n l)) a b k h g = (again (h .1) g, tt)
-  below-same (operand (Arith n o l r)) a b k h g = (again (h .1) g, (again (h .2) g, tt))
-  below-same (operand (Sum n v l c)) a b k h g = pairs-pick (is-sigil v || binder-sigil l) _ _ (again (h .3) (agree-join a b (binder-names l) g), tt)
-  below-same (operand (Count n l c)) a b k h g = pairs-pick (false || binder-sigil l) _ _ (again (h .2) (agree-join a b (binder-names l) g), tt)
-  below-same (operand (AggregateCall n y)) a b k h g = tt
-  below-same (searched (Var n x)) a b k h g = tt
-  below-same (searched (Wildcard n)) a b k h g = tt
-  below-same (searched (Value n y z)) a b k h g = tt
-  below-same (searched (Sigil n y i)) a b k h g = tt
-  below-same (searched (Array n l)) a b k h g = (again (h .1) g, tt)
-  below-same (searched (Arith n o l r)) a b k h g = tt
-  below-same (searched (Sum n v l c)) a b k h g = tt
-  below-same (searched (Count n l c)) a b k h g = tt
-  below-same (searched (AggregateCall n y)) a b k h g = tt
-  below-same (searched-arguments (no-argument n)) a b k h g = tt
-  below-same (searched-arguments (argument n f t l)) a b k h g = (again (h .1) g, (again (h .2) g, tt))
-  below-same (searched-items (no-item n)) a b k h g = tt
-  below-same (searched-items (item n t l)) a b k h g = (again (h .1) g, (again (h .2) g, tt))
+  below-same (condition (And n l r)) a b k g = (again g, (again g, tt))
+  below-same (condition (Or n l r)) a b k g = (again g, (again g, tt))
+  below-same (condition (Not n c)) a b k g = (again g, tt)
+  below-same (condition (Past n y c w)) a b k g = (again g, tt)
+  below-same (condition (Since n l r w)) a b k g = (again g, (again g, tt))
+  below-same (condition (Exists n v y c)) a b k g = (again (agree-join a b (named v) g), tt)
+  below-same (condition (Comparison n o l r)) a b k g = (again g, (again g, tt))
+  below-same (condition (Predicate n y l)) a b k g = (again g, tt)
+  below-same (condition (Refine n c l)) a b k g = (again g, tt)
+  below-same (condition (Tp n v)) a b k g = tt
+  below-same (condition (Opaque n y z)) a b k g = tt
+  below-same (operand (Var n x)) a b k g = tt
+  below-same (operand (Wildcard n)) a b k g = tt
+  below-same (operand (Value n y z)) a b k g = tt
+  below-same (operand (Sigil n y i)) a b k g = tt
+  below-same (operand (Array n l)) a b k g = (again g, tt)
+  below-same (operand (Arith n o l r)) a b k g = (again g, (again g, tt))
+  below-same (operand (Sum n v l c)) a b k g = pairs-pick (is-sigil v || binder-sigil l) _ _ (again (agree-join a b (binder-names l) g), tt)
+  below-same (operand (Count n l c)) a b k g = pairs-pick (false || binder-sigil l) _ _ (again (agree-join a b (binder-names l) g), tt)
+  below-same (operand (AggregateCall n y)) a b k g = tt
+  below-same (searched (Var n x)) a b k g = tt
+  below-same (searched (Wildcard n)) a b k g = tt
+  below-same (searched (Value n y z)) a b k g = tt
+  below-same (searched (Sigil n y i)) a b k g = tt
+  below-same (searched (Array n l)) a b k g = (again g, tt)
+  below-same (searched (Arith n o l r)) a b k g = tt
+  below-same (searched (Sum n v l c)) a b k g = tt
+  below-same (searched (Count n l c)) a b k g = tt
+  below-same (searched (AggregateCall n y)) a b k g = tt
+  below-same (searched-arguments (no-argument n)) a b k g = tt
+  below-same (searched-arguments (argument n f t l)) a b k g = (again g, (again g, tt))
+  below-same (searched-items (no-item n)) a b k g = tt
+  below-same (searched-items (item n t l)) a b k g = (again g, (again g, tt))
 
-  rules-same : (words : Set) (p q : Place) → Reseeded p q → scope-broken words p ≡ scope-broken words q
-  rules-same words p q (again {s} {a} {b} {k} h g) = broken-same words s a b k h g
+  rules-same : (words : Set) (p q : Place) → SanePlace 512 M p → Reseeded p q → scope-broken words p ≡ scope-broken words q
+  rules-same words p q h (again {s} {a} {b} {k} g) = broken-same words s a b k h g
 
   leads-same : (p q : Place) → Reseeded p q → Pairs Reseeded (scope-below p) (scope-below q)
-  leads-same p q (again {s} {a} {b} {k} h g) = below-same s a b k h g
+  leads-same p q (again {s} {a} {b} {k} g) = below-same s a b k g
 
 pub seed-past-the-table : (c : Contents) → WellFormed c → (a b : Set) → ((x : ℕ) → x < length (c .names) → a x ≡ b x) → scoping-part c a ≡ scoping-part c b
 unfolding scoping-part
 seed-past-the-table c f a b h =
     let M = length (c .names) in
     let words = reserved (c .names) in
-    found-same scope-below (scope-broken words) scope-shrinks (Reseeded 512 M) (rules-same 512 M words) (leads-same 512 M) (asked-at (condition (root c)) a)
-    (asked-at (condition (root c)) b) (again (sane-root c f) h)
+    found-same scope-below (scope-broken words) scope-shrinks (SanePlace 512 M) (scope-below-sane 512 M) (Reseeded M) (rules-same M words) (leads-same M)
+    (asked-at (condition (root c)) a) (sane-root c f) (asked-at (condition (root c)) b) (again h)
 
 pub seed-has-no-effect : (bytes : List ℕ) (a b : Set) → ((c : Contents) → read bytes ≡ accepted c → (x : ℕ) → x < length (c .names) → a x ≡ b x)
     → scoping bytes a ≡ scoping bytes b

@@ -6,7 +6,7 @@
 --     invents the count     by the list's length
 -- Assumes nothing.
 use mathlib.Core.Path.{_≡_, refl, sym, ap, _∙_}
-use mathlib.Core.List.{List, [], _∷_, _++_, map}
+use mathlib.Core.List.{List, [], _∷_, _++_}
 use Prim.Native.Nat.{ℕ, _≤_}
 use native.Mathlib.Omega.{arith}
 use lib.ListN.{length, take, drop, getD, replicate, length-replicate}
@@ -31,36 +31,32 @@ use Rattle.paper.proofs.Answers.{list-success, list-writes}
 
 -- ---- what the cases are answered
 
-pub record Checks : Type 0 where
-  pub scoped : Answer
-  pub closed : Answer
-  pub demanded : Answer
-
-checks : List ℕ → Checks
-checks bytes = record { scoped = scoping bytes none; closed = closedness bytes; demanded = demands bytes }
-
 abbrev unmet : ℕ → ℕ → ℕ → Answer
 unmet rule node name = Unmet (record { rule = rule; node = node-no node; name = Name (name-no name) })
 
-checked : map checks (case-b ∷ case-f ∷ case-full ∷ [])
-    ≡ (record { scoped = Accepted; closed = Accepted; demanded = Accepted }
-    ∷ record { scoped = unmet 24 8 0; closed = unmet 28 10 0; demanded = unmet 31 10 0 }
-    ∷ record { scoped = Accepted; closed = unmet 28 8 1; demanded = unmet 31 2 1 }
-    ∷ [])
-unfolding computed checks scoping closedness demands answered first
-checked = refl
+scoping-b : scoping case-b none ≡ Accepted
+unfolding computed scoping answered first
+scoping-b = refl
 
-abbrev nth-check : ℕ → List Checks → Checks
-nth-check i l = getD l i (record { scoped = Accepted; closed = Accepted; demanded = Accepted })
+scoping-f : scoping case-f none ≡ unmet 24 8 0
+unfolding computed scoping answered first
+scoping-f = refl
 
-checks-b : checks case-b ≡ record { scoped = Accepted; closed = Accepted; demanded = Accepted }
-checks-b = ap (nth-check 0) checked
+closedness-b : closedness case-b ≡ Accepted
+unfolding computed closedness answered first
+closedness-b = refl
 
-checks-f : checks case-f ≡ record { scoped = unmet 24 8 0; closed = unmet 28 10 0; demanded = unmet 31 10 0 }
-checks-f = ap (nth-check 1) checked
+closedness-full : closedness case-full ≡ unmet 28 8 1
+unfolding computed closedness answered first
+closedness-full = refl
 
-checks-full : checks case-full ≡ record { scoped = Accepted; closed = unmet 28 8 1; demanded = unmet 31 2 1 }
-checks-full = ap (nth-check 2) checked
+demands-b : demands case-b ≡ Accepted
+unfolding computed demands answered first
+demands-b = refl
+
+demands-full : demands case-full ≡ unmet 31 2 1
+unfolding computed demands answered first
+demands-full = refl
 
 told-b : told case-b ≡ finds [] (7 ∷ 7 ∷ 7 ∷ 7 ∷ 7 ∷ 7 ∷ []) No
 told-b = ap (λ (l : List Told). getD l 1 (told [])) cases
@@ -74,26 +70,14 @@ told-f = ap (λ (l : List Told). getD l 5 (told [])) cases
 told-full : told case-full ≡ finds (469764097 ∷ 520094209 ∷ []) (7 ∷ 7 ∷ 7 ∷ 7 ∷ []) No
 told-full = ap (λ (l : List Told). getD l 12 (told [])) cases
 
-scoping-b : scoping case-b none ≡ Accepted
-unfolding checks
-scoping-b = ap (λ (z : Checks). z .scoped) checks-b
-
-closedness-b : closedness case-b ≡ Accepted
-unfolding checks
-closedness-b = ap (λ (z : Checks). z .closed) checks-b
-
-demands-b : demands case-b ≡ Accepted
-unfolding checks
-demands-b = ap (λ (z : Checks). z .demanded) checks-b
-
 -- the buffer of six entries that the cases lend
 abbrev lent : List ℕ
 lent = replicate 6 7
 
-list-of : (bytes : List ℕ) (t : Told) → told bytes ≡ t
+as-told : (bytes : List ℕ) (t : Told) → told bytes ≡ t
     → (list bytes 6 ≡ t .listing) × (list-buffer bytes lent ≡ t .buffer) × (arithmetic bytes ≡ t .arith)
 unfolding told
-list-of bytes t e = (ap (λ (z : Told). z .listing) e, ap (λ (z : Told). z .buffer) e, ap (λ (z : Told). z .arith) e)
+as-told bytes t e = (ap (λ (z : Told). z .listing) e, ap (λ (z : Told). z .buffer) e, ap (λ (z : Told). z .arith) e)
 
 -- ---- refuses everything: its answer is never 'accepted', or never a count
 
@@ -109,10 +93,10 @@ demands-refuses-everything f wrong meets = wrong case-b (meets case-b ∙ demand
 
 pub list-refuses-everything : (f : List ℕ → ℕ → Listing) → ((bytes : List ℕ) (room count : ℕ) → f bytes room ≡ Listed count → ⊥)
     → ((bytes : List ℕ) (room : ℕ) → f bytes room ≡ list bytes room) → ⊥
-list-refuses-everything f wrong meets = wrong case-b 6 0 (meets case-b 6 ∙ list-of case-b _ told-b .0)
+list-refuses-everything f wrong meets = wrong case-b 6 0 (meets case-b 6 ∙ as-told case-b _ told-b .0)
 
 pub arithmetic-refuses-everything : (f : List ℕ → Arithmetic) → ((bytes : List ℕ) → f bytes ≡ No → ⊥) → ((bytes : List ℕ) → f bytes ≡ arithmetic bytes) → ⊥
-arithmetic-refuses-everything f wrong meets = wrong case-b (meets case-b ∙ list-of case-b _ told-b .2)
+arithmetic-refuses-everything f wrong meets = wrong case-b (meets case-b ∙ as-told case-b _ told-b .2)
 
 pub reader-refuses-everything : (f : List ℕ → Verdict) → ((bytes : List ℕ) (names nodes : ℕ) → f bytes ≡ Counts names nodes → ⊥)
     → ((bytes : List ℕ) → f bytes ≡ verdict (read bytes)) → ⊥
@@ -137,33 +121,30 @@ accepted-unmet : (f : Finding) → Accepted ≡ Unmet f → ⊥
 accepted-unmet f e = let z : _≡_ {A = ℕ} 0 1 = cc in omega arith
 
 pub scoping-fixed : (r : Set → Answer) → ((bytes : List ℕ) (seed : Set) → r seed ≡ scoping bytes seed) → ⊥
-unfolding checks
 scoping-fixed r meets =
-    fixed (λ bytes. scoping bytes none) case-b case-f Accepted (unmet 24 8 0) scoping-b (ap (λ (z : Checks). z .scoped) checks-f) (accepted-unmet _) (r none)
+    fixed (λ bytes. scoping bytes none) case-b case-f Accepted (unmet 24 8 0) scoping-b scoping-f (accepted-unmet _) (r none)
     (λ bytes. meets bytes none)
 
 pub closedness-fixed : (r : Answer) → ((bytes : List ℕ) → r ≡ closedness bytes) → ⊥
-unfolding checks
 closedness-fixed =
-    fixed closedness case-b case-full Accepted (unmet 28 8 1) closedness-b (ap (λ (z : Checks). z .closed) checks-full) (accepted-unmet _)
+    fixed closedness case-b case-full Accepted (unmet 28 8 1) closedness-b closedness-full (accepted-unmet _)
 
 pub demands-fixed : (r : Answer) → ((bytes : List ℕ) → r ≡ demands bytes) → ⊥
-unfolding checks
-demands-fixed = fixed demands case-b case-full Accepted (unmet 31 2 1) demands-b (ap (λ (z : Checks). z .demanded) checks-full) (accepted-unmet _)
+demands-fixed = fixed demands case-b case-full Accepted (unmet 31 2 1) demands-b demands-full (accepted-unmet _)
 
 pub arithmetic-fixed : (r : Arithmetic) → ((bytes : List ℕ) → r ≡ arithmetic bytes) → ⊥
 arithmetic-fixed =
-    fixed arithmetic case-b case-c No Yes (list-of case-b _ told-b .2) (list-of case-c _ told-c .2) (λ e. let z : _≡_ {A = ℕ} 0 1 = cc in omega arith)
+    fixed arithmetic case-b case-c No Yes (as-told case-b _ told-b .2) (as-told case-c _ told-c .2) (λ e. let z : _≡_ {A = ℕ} 0 1 = cc in omega arith)
 
 -- not even one for each size of the buffer, or for each buffer
 pub list-fixed : (r : ℕ → Listing) → ((bytes : List ℕ) (room : ℕ) → r room ≡ list bytes room) → ⊥
 list-fixed r meets =
-    fixed (λ bytes. list bytes 6) case-b case-full (Listed 0) (Listed 2) (list-of case-b _ told-b .0) (list-of case-full _ told-full .0)
+    fixed (λ bytes. list bytes 6) case-b case-full (Listed 0) (Listed 2) (as-told case-b _ told-b .0) (as-told case-full _ told-full .0)
     (λ e. let z : _≡_ {A = ℕ} 0 2 = cc in omega arith) (r 6) (λ bytes. meets bytes 6)
 
 pub buffer-fixed : (r : List ℕ → List ℕ) → ((bytes before : List ℕ) → r before ≡ list-buffer bytes before) → ⊥
 buffer-fixed r meets =
-    fixed (λ bytes. list-buffer bytes lent) case-b case-full _ _ (list-of case-b _ told-b .1) (list-of case-full _ told-full .1)
+    fixed (λ bytes. list-buffer bytes lent) case-b case-full _ _ (as-told case-b _ told-b .1) (as-told case-full _ told-full .1)
     (λ e. let z : _≡_ {A = ℕ} 7 469764097 = cc in omega arith) (r lent) (λ bytes. meets bytes lent)
 
 -- ---- what must stand in the buffer
@@ -171,16 +152,17 @@ buffer-fixed r meets =
 -- what is told of a case with six entries lent is true of any buffer that has room
 told-list : (bytes entries rest : List ℕ) (a : Arithmetic) → told bytes ≡ finds entries rest a → (c : Contents) × (read bytes ≡ accepted c) × (packed c ≡ entries)
 told-list bytes entries rest a e =
-    let t = list-of bytes (finds entries rest a) e in
+    let t = as-told bytes (finds entries rest a) e in
     let s = list-success bytes lent (length entries) (t .0) in
     (s .contents, s .holds, sym (s .written) ∙ ap (take (length entries)) (t .1) ∙ take-pre entries rest)
 
-entries-written : (bytes entries rest : List ℕ) (a : Arithmetic) → told bytes ≡ finds entries rest a → (before : List ℕ) → length entries ≤ length before
-    → take (length entries) (list-buffer bytes before) ≡ entries
-entries-written bytes entries rest a e before h =
+entries-written : (bytes entries rest : List ℕ) (a : Arithmetic) → told bytes ≡ finds entries rest a
+    → (f : List ℕ → List ℕ → List ℕ) → ((bytes before : List ℕ) → f bytes before ≡ list-buffer bytes before) → (before : List ℕ)
+    → length entries ≤ length before → take (length entries) (f bytes before) ≡ entries
+entries-written bytes entries rest a e f meets before h =
     let t = told-list bytes entries rest a e in
     let w = list-writes bytes before (t .0) (t .1) (let z = ap length (t .2) in omega arith) .1 in
-    ap (take (length entries)) (w ∙ ap (λ (l : List ℕ). l ++ drop (length l) before) (t .2)) ∙ take-pre entries (drop (length entries) before)
+    ap (take (length entries)) (meets bytes before ∙ w ∙ ap (λ (l : List ℕ). l ++ drop (length l) before) (t .2)) ∙ take-pre entries (drop (length entries) before)
 
 abbrev rest-of-f : List ℕ
 rest-of-f = at 25 8 0 ∷ at 28 10 0 ∷ at 31 10 0 ∷ []
@@ -188,13 +170,12 @@ rest-of-f = at 25 8 0 ∷ at 28 10 0 ∷ at 31 10 0 ∷ []
 -- whatever meets the contract writes both entries of the full record
 pub two-entries : (f : List ℕ → List ℕ → List ℕ) → ((bytes before : List ℕ) → f bytes before ≡ list-buffer bytes before)
     → (before : List ℕ) → 2 ≤ length before → take 2 (f case-full before) ≡ 469764097 ∷ 520094209 ∷ []
-two-entries f meets before h =
-    ap (take 2) (meets case-full before) ∙ entries-written case-full (469764097 ∷ 520094209 ∷ []) (7 ∷ 7 ∷ 7 ∷ 7 ∷ []) No told-full before h
+two-entries = entries-written case-full (469764097 ∷ 520094209 ∷ []) (7 ∷ 7 ∷ 7 ∷ 7 ∷ []) No told-full
 
 -- and all four of f
 pub four-entries : (f : List ℕ → List ℕ → List ℕ) → ((bytes before : List ℕ) → f bytes before ≡ list-buffer bytes before)
     → (before : List ℕ) → 4 ≤ length before → take 4 (f case-f before) ≡ at 24 8 0 ∷ rest-of-f
-four-entries f meets before h = ap (take 4) (meets case-f before) ∙ entries-written case-f (at 24 8 0 ∷ rest-of-f) (7 ∷ 7 ∷ []) No told-f before h
+four-entries = entries-written case-f (at 24 8 0 ∷ rest-of-f) (7 ∷ 7 ∷ []) No told-f
 
 -- ---- does nothing
 

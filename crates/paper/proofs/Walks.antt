@@ -1,31 +1,67 @@
 -- The theorem on lists in document order, once for every walk: over what lies below a place and what is broken there.
 --     found-exactly    the list that is found from a place holds exactly what is unmet by the path definition, each once, in document order
 --     found-at         it is what is broken at the place, and then what is found at each place below
+--     found-by         so what holds of it can be shown place by place
 -- A walk has only to show that every place below is smaller, and that the rules broken at a place are named in their order. Assumes nothing.
 use mathlib.Core.Path.{_≡_, refl, sym, ap, ap₂, _∙_, subst}
-use mathlib.Core.Logic.{_⊎_, inl, inr, ⊎-elim}
+use mathlib.Core.Logic.{inl, inr, ⊎-elim}
 use mathlib.Core.Bool.{Bool, true, false}
-use mathlib.Core.List.{List, [], _∷_, _++_, map, map-append, map-map, List·Memᴰ, List·Memᴰ·not-nil, List·Memᴰ·append-cases, Memᴰ·append-left, Memᴰ·append-right, Memᴰ·cast, Memᴰ·map, Memᴰ·of-map}
+use mathlib.Core.List.{List, [], _∷_, _++_, map, map-append, map-map}
+use mathlib.Core.List.{List·Memᴰ, List·Memᴰ·head, List·Memᴰ·tail, List·Memᴰ·not-nil, List·Memᴰ·cases-cons, List·Memᴰ·append-cases}
+use mathlib.Core.List.{Memᴰ·append-left, Memᴰ·append-right, Memᴰ·cast, Memᴰ·map, Memᴰ·of-map}
 use Prim.Native.Nat.{ℕ, zero, suc, _+_, _<_, _≤_}
 use native.Mathlib.Omega.{arith}
 use native.Mathlib.Nat.{add-zero}
 use lib.ListN.{getD}
 use Rattle.paper.specs.declared.Finding.{Finding}
 use Rattle.paper.specs.Record.{pick}
-use Rattle.paper.specs.Places.{Place, nowhere, place, Entry, Broken, Unmet, Before, Earlier, Located, Precedes, Ascending, Exactly, gather, findings, spot-size, found-within, found}
+use Rattle.paper.specs.Places.{Place, nowhere, place, Entry, Broken, Unmet, Before, Earlier, Located, Precedes, Ascending, Exactly}
+use Rattle.paper.specs.Places.{gather, findings, spot-size, found-within, found}
 use Rattle.paper.proofs.Ascending.{asc-append, asc-map}
 use Rattle.paper.proofs.Entries.{entries, entries-get, entries-put, gather-get, gather-put, ByRule, gather-asc, gather-findings}
+
+-- ---- either of two, and every member of a list
+
+pub picked : {A : Type 0} (C : A → Type 0) (b : Bool) (x y : A) → C x → C y → C (pick b x y)
+picked C true x y p q = p
+picked C false x y p q = q
 
 abbrev pub All : {A : Type 0} → (A → Type 0) → List A → Type 0
 All C [] = Unit {0}
 All C (a ∷ l) = C a × All C l
 
-abbrev pub extent : Place → ℕ
-extent p = spot-size (p .spot)
+pub all-map : {A : Type 0} {C D : A → Type 0} → ((a : A) → C a → D a) → (l : List A) → All C l → All D l
+all-map f [] p = tt
+all-map f (a ∷ l) p = (f a (p .0), all-map f l (p .1))
+
+pub all-unless : {A : Type 0} (C : A → Type 0) (b : Bool) (l : List A) → All C l → All C (pick b [] l)
+all-unless C b l a = picked (All C) b [] l tt a
+
+pub all-both : {A : Type 0} (C D E : A → Type 0) → ((a : A) → C a → D a → E a) → (l : List A) → All C l → All D l → All E l
+all-both C D E f [] p q = tt
+all-both C D E f (a ∷ l) p q = (f a (p .0) (q .0), all-both C D E f l (p .1) (q .1))
+
+pub all-append : {A : Type 0} (C : A → Type 0) (l m : List A) → All C l → All C m → All C (l ++ m)
+all-append C [] m p q = q
+all-append C (a ∷ l) m p q = (p .0, all-append C l m (p .1) q)
+
+pub all-of : {A : Type 0} (C : A → Type 0) (l : List A) → ((a : A) → List·Memᴰ a l → C a) → All C l
+all-of C [] h = tt
+all-of C (a ∷ l) h = (h a (List·Memᴰ·head refl), all-of C l (λ b m. h b (List·Memᴰ·tail m)))
+
+pub all-at : {A : Type 0} (C : A → Type 0) (l : List A) (a : A) → All C l → List·Memᴰ a l → C a
+all-at C [] a h m = absurd (List·Memᴰ·not-nil m)
+all-at C (b ∷ l) a h m = ⊎-elim (λ (e : a ≡ b). subst C (sym e) (h .0)) (λ k. all-at C l a (h .1) k) (List·Memᴰ·cases-cons m)
+
+pub nil-cons : {A : Type 0} (a : A) (l : List A) → [] ≡ a ∷ l → ⊥
+nil-cons a l e = let z : _≡_ {A = ℕ} 0 1 = cc in omega arith
 
 -- ---- located lists
 
-abbrev here : Entry → Located
+abbrev pub extent : Place → ℕ
+extent p = spot-size (p .spot)
+
+abbrev pub here : Entry → Located
 here e = record { path = []; item = e }
 
 abbrev push : ℕ → Located → Located
@@ -42,14 +78,6 @@ forest-same : (f g : Place → List Located) (i : ℕ) (qs : List Place) → All
 forest-same f g i [] a = refl
 forest-same f g i (q ∷ qs) a = ap₂ {C = List Located} _++_ (ap (map (push i)) (a .0)) (forest-same f g (suc i) qs (a .1))
 
-pub all-map : {A : Type 0} {C D : A → Type 0} → ((a : A) → C a → D a) → (l : List A) → All C l → All D l
-all-map f [] p = tt
-all-map f (a ∷ l) p = (f a (p .0), all-map f l (p .1))
-
-pub all-unless : {A : Type 0} (C : A → Type 0) (b : Bool) (l : List A) → All C l → All C (pick b [] l)
-all-unless C true l a = tt
-all-unless C false l a = a
-
 push-up : (k : ℕ) (a b : Located) → Precedes a b → Precedes (push k a) (push k b)
 push-up k a b h = ⊎-elim (λ p. inl (inr (refl, p))) (λ p. inr (ap (λ (z : List ℕ). k ∷ z) (p .0), p .1)) h
 
@@ -58,9 +86,6 @@ before-at k j p q x y d e h = subst (λ (z : List ℕ). Before z y) (sym d) (sub
 
 before-below : (j : ℕ) (q x y : List ℕ) → x ≡ [] → y ≡ j ∷ q → Before x y
 before-below j q x y d e = subst (λ (z : List ℕ). Before z y) (sym d) (subst (λ (z : List ℕ). Before [] z) (sym e) tt)
-
-nil-cons : (i : ℕ) (p : List ℕ) → [] ≡ i ∷ p → ⊥
-nil-cons i p e = let z : _≡_ {A = ℕ} 0 1 = cc in omega arith
 
 abbrev finding-of : Located → Finding
 finding-of l = l .item .finding
@@ -102,7 +127,8 @@ module _ (below : Place → List Place) (broken : Place → List Broken) where
     enough (suc d) zero p h k = absurd (let z = pos p in omega arith)
     enough (suc d) (suc e) p h k =
         ap (λ (z : List Located). map here (own p) ++ z)
-        (forest-same (find-within d) (find-within e) 0 (below p) (all-map (λ q (l : extent q < extent p). enough d e q (omega arith) (omega arith)) (below p) (shrinks p)))
+        (forest-same (find-within d) (find-within e) 0 (below p)
+        (all-map (λ q (l : extent q < extent p). enough d e q (omega arith) (omega arith)) (below p) (shrinks p)))
 
     parts : (p : Place) → find p ≡ map here (own p) ++ forest find 0 (below p)
     unfolding find find-within
@@ -230,3 +256,15 @@ module _ (below : Place → List Place) (broken : Place → List Broken) where
         ∙ map-append finding-of (map here (own p)) (forest find 0 (below p))
         ∙ ap₂ {C = List Finding} _++_ (map-map finding-of here (own p) ∙ gather-findings (broken p))
         (forest-findings find (found below broken) (λ q. within-findings (extent q) q) 0 (below p))
+
+    -- where `Holds` goes down with the walk, and `C` holds of what is broken at a place and found below it if it holds of what is found from each place below
+    pub found-by : (Holds : Place → Type 0) → ((p : Place) → Holds p → All Holds (below p)) → (C : Place → List Finding → Type 0)
+        → ((p : Place) → Holds p → All (λ q. C q (found below broken q)) (below p) → C p (gather findings (broken p) ++ gather (found below broken) (below p)))
+        → (p : Place) → Holds p → C p (found below broken p)
+    found-by Holds goes-down C step p =
+        within (λ q. Holds q → C q (found below broken q))
+        (λ q a h.
+        subst (C q) (sym (found-at q))
+        (step q h
+        (all-both (λ r. Holds r → C r (found below broken r)) Holds (λ r. C r (found below broken r)) (λ r f k. f k) (below q) a (goes-down q h))))
+        (extent p) p (omega arith)

@@ -1,16 +1,17 @@
 -- How much the nodes of a tree weigh, where each number has a weight of its own: 1 each gives the tree's size, 1 for one number and 0 for the rest how often
 -- that number stands in it. What a planted node weighs is its own weight and its references'. Assumes nothing.
-use mathlib.Core.Path.{_≡_, refl, sym, ap, ap₂, _∙_}
+use mathlib.Core.Path.{_≡_, refl, sym, ap, ap₂}
 use mathlib.Core.Bool.{Bool, true, false, true≢false}
 use mathlib.Core.List.{List, [], _∷_}
-use Prim.Native.Nat.{ℕ, _+_, _<_}
+use Prim.Native.Nat.{ℕ, _+_}
 use native.Mathlib.Omega.{arith}
 use Rattle.paper.specs.declared.NodeNo.{NodeNo}
 use Rattle.paper.specs.declared.Node.{Node}
 use Rattle.paper.specs.declared.Node.the-variants as node
 use Rattle.paper.specs.Record.{Sort, condition, term, arguments, items, binders}
 use Rattle.paper.specs.Tree as tree
-use Rattle.paper.specs.Tree.{Condition, Term, Arguments, Items, Binders, Tree, a-condition, a-term, an-end, as-condition, as-term, as-arguments, as-items, as-binders, planted, size, term-size, arguments-size, items-size, binders-size}
+use Rattle.paper.specs.Tree.{Condition, Term, Arguments, Items, Binders, Tree, a-condition, a-term, an-end, as-condition, as-term, as-arguments, as-items}
+use Rattle.paper.specs.Tree.{as-binders, planted, size, term-size, arguments-size, items-size, binders-size}
 use Rattle.paper.specs.Tree.Condition.{And, Or, Not, Past, Since, Exists, Comparison, Predicate, Refine, Tp, Opaque}
 use Rattle.paper.specs.Tree.Term.{Var, Wildcard, Value, Sigil, Array, Arith, Sum, Count, AggregateCall}
 use Rattle.paper.specs.Tree.Arguments.{no-argument, argument}

@@ -1,11 +1,12 @@
 -- What every walk over accepted bytes may count on: each reference is below its node and of its sort, each name is in the table, no node is deeper than 64,
 -- and the root's tree has every node exactly once. Assumes nothing.
 use mathlib.Core.Path.{_≡_, refl, sym, ap, _∙_, subst, fun-ext}
-use mathlib.Core.Bool.{Bool, true, false, _&&_, _||_, true≢false}
+use mathlib.Core.Bool.{Bool, true, false, _||_, true≢false}
 use mathlib.Core.List.{List, [], _∷_, _++_, map, map-append}
 use Prim.Native.Nat.{ℕ, zero, suc, _+_, _-_, _<_, _≤_}
 use native.Mathlib.Omega.{arith}
 use native.Mathlib.Decide.{decLt}
+use native.Mathlib.Nat.{mul-one}
 use native.Mathlib.Numerals.{add-one}
 use lib.Dec.{eqb, ltb}
 use lib.ListN.{length, getD, drop, length-append, List·getD-append, length-map}
@@ -18,11 +19,11 @@ use Rattle.paper.specs.TurnedAway.{Contents, accepted, read, Seen, unsee
 use Rattle.paper.specs.Tree.{Tree, as-condition, planted, trees, tree-at, root-no, root, size}
 use Rattle.paper.specs.Shape.{references, names-in}
 use Rattle.paper.proofs.SetLaws.{all-get}
-use Rattle.paper.proofs.Walks.{All, all-map}
+use Rattle.paper.proofs.Walks.{All, all-map, all-both}
 use Rattle.paper.proofs.Runs.{Went, went-format, went-name, went-node, seen-node, last-of, taken, Closed, closed, accepted-keeps}
 use Rattle.paper.proofs.Fields.{New, Into, says, for-sort, Passed, passed, field-references}
 use Rattle.paper.proofs.Weights.{weigh, one, size-weighs, tree-weight, weight-as, of-sort, at-home, total, planted-weighs}
-use Rattle.paper.proofs.Forests.{tree-step, tree-more, trees-more, sum, spare, spare-same, spare-last, weight-at, Home, new-total}
+use Rattle.paper.proofs.Forests.{tree-step, tree-more, trees-more, sum, sum-same, spare, spare-same, spare-last, weight-at, Home, new-total}
 
 abbrev said : List Seen → List Node
 said nodes = map (λ (s : Seen). s .node) nodes
@@ -121,10 +122,6 @@ undeep (fine x v) d u e = go (decLt 64 (x + 1)) e
         let q : fine x v ≡ fine d u = rw (le-ltb 64 (x + 1) (omega arith)) at e in
         let z : x ≡ d = deep-eq x d v u q in
         (q, omega arith)
-
-pub all-both : {A : Type 0} (C D E : A → Type 0) → ((a : A) → C a → D a → E a) → (l : List A) → All C l → All D l → All E l
-all-both C D E f [] p q = tt
-all-both C D E f (a ∷ l) p q = (f a (p .0) (q .0), all-both C D E f l (p .1) (q .1))
 
 -- ---- what was sound stays so
 
@@ -372,14 +369,9 @@ well-formed bytes c e =
 
 -- ---- in particular
 
-sum-one : (n : ℕ) → sum one n ≡ n
-unfolding sum
-sum-one zero = refl
-sum-one (suc n) = ap (λ (z : ℕ). 1 + z) (sum-one n) ∙ (let e : 1 + n ≡ suc n = omega arith in e)
-
 -- "the tree's size is its node count"
 pub tree-size : (c : Contents) → WellFormed c → size (root c) ≡ length (c .nodes)
-tree-size c f = size-weighs (root c) ∙ f .whole one ∙ sum-one (length (c .nodes))
+tree-size c f = size-weighs (root c) ∙ f .whole one ∙ sum-same 1 (length (c .nodes)) ∙ mul-one (length (c .nodes))
 
 -- 1 for a number, 0 for any other
 abbrev pub just : ℕ → ℕ → ℕ

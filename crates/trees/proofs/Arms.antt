@@ -12,10 +12,10 @@ use Rattle.paper.specs.declared.Node.the-variants.{And, Or, Not, Formerly, Prev
 use Rattle.paper.specs.Record.{Sort, node-no}
 use Rattle.paper.specs.Tree.{Tree, planted, trees}
 use Rattle.paper.specs.Shape.{references, names-in}
-use Rattle.paper.proofs.Walks.{All, all-map}
+use Rattle.paper.proofs.Walks.{All, all-map, all-both}
 use Rattle.paper.proofs.Weights.{of-sort}
 use Rattle.paper.proofs.Forests.{tree-step, tree-same}
-use Rattle.paper.proofs.WellFormed.{WellFormed, well-formed, all-both}
+use Rattle.paper.proofs.WellFormed.{WellFormed, well-formed}
 use Rattle.record.specs.Stored.{contents, Has}
 use Rattle.record.proofs.StoredLaws.{by-outcome}
 use Rattle.trees.specs.Trees.{tree-of}
