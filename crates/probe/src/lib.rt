@@ -4,6 +4,7 @@ use octets::long;
 use octets::wide;
 use paper::Answer;
 use paper::Arithmetic;
+use paper::Listing;
 use paper::NameNo;
 use paper::Subject;
 use paper::Verdict;
@@ -11,7 +12,7 @@ ghost use mathlib.Core.Path.{_≡_};
 ghost use lib.ListN.{length};
 ghost use Rattle.paper.specs.TurnedAway.{read as read-bytes, verdict};
 ghost use Rattle.paper.specs.TheList.{name-or-255};
-ghost use Rattle.paper.specs.Questions.{name, answer-numbers, arithmetic-numbers, scoping, closedness, arithmetic};
+ghost use Rattle.paper.specs.Questions.{name, answer-numbers, arithmetic-numbers, listing-numbers, scoping, closedness, demands, arithmetic, list, list-buffer};
 ghost use Rattle.names.specs.Words.{mem};
 ghost use Rattle.probe.specs.Numbers.{probed, asked};
 
@@ -110,6 +111,14 @@ pub extern "C" fn probe_closedness(bytes: &[u8]) -> Asked
 }
 
 #[no_mangle]
+pub extern "C" fn probe_demands(bytes: &[u8]) -> Asked
+    ensures { λ r. ⌜ r ≡ asked (answer-numbers (demands (now (bytes .entry)))) ⌝ }
+{
+    let a = noravilump::demands(bytes);
+    answered(a)
+}
+
+#[no_mangle]
 pub extern "C" fn probe_arithmetic(bytes: &[u8]) -> Asked
     ensures { λ r. ⌜ r ≡ asked (arithmetic-numbers (arithmetic (now (bytes .entry)))) ⌝ }
 {
@@ -118,4 +127,22 @@ pub extern "C" fn probe_arithmetic(bytes: &[u8]) -> Asked
         Arithmetic::No => told(0, 0, 255),
         Arithmetic::Refused { number, offset } => told(number, offset, 255),
     }
+}
+
+fn listed(l: Listing) -> Asked
+    ensures { λ r. ⌜ r ≡ asked (listing-numbers l) ⌝ }
+{
+    match l {
+        Listing::Listed(count) => told(0, count, 255),
+        Listing::NoRoom(needed) => told(50, needed, 255),
+        Listing::Refused { number, offset } => told(number, offset, 255),
+    }
+}
+
+#[no_mangle]
+pub extern "C" fn probe_list(bytes: &[u8], out: &mut [u32]) -> Asked
+    ensures { λ r. ⌜ (r ≡ asked (listing-numbers (list (now (bytes .entry)) (length (now (out .entry)))))) × (now (out .exit) ≡ list-buffer (now (bytes .entry)) (now (out .entry))) ⌝ }
+{
+    let l = noravilump::list(bytes, out);
+    listed(l)
 }

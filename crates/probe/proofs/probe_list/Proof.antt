@@ -1,0 +1,17 @@
+-- `probe_list` says the list's answer in numbers, and leaves the buffer as the list does.
+use mathlib.Core.Path.{ap, _∙_}
+use borrow.Author.Needs.{needs}
+use Rattle.paper.specs.declared.Listing.{Listing}
+use Rattle.paper.specs.Questions.{listing-numbers}
+use Rattle.probe.specs.Numbers.{asked}
+use Rattle.probe.proofs.probe_list.Statement.{statement}
+use Rattle.probe.proofs.probe_list.Tie as tie
+
+pub probe-list-spec : {M : Type 1} → statement M
+probe-list-spec =
+    tie.close
+    (tie.spec
+    (λ c κs. search needs)
+    (λ c κs. search needs)
+    (λ c. search needs)
+    (λ c. (c .listed .ensures ∙ ap (λ (l : Listing). asked (listing-numbers l)) (c .before .before .before .list .ensures .0), c .before .before .before .list .ensures .1)))
