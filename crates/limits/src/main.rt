@@ -1,4 +1,4 @@
-// The reader at its limits: a line says what a record is, how long it is and what the reader says of it.
+// The reader and the list at their limits: a line says what a record is, how long it is and what the reader says of it.
 mod put;
 mod say;
 
@@ -87,6 +87,27 @@ fn largest() {
     say::reading(b"a byte less", &out, len - 1);
 }
 
+// Not over a balanced tree of 128 tps, one for each name: 28 for each, and 31 for each.
+fn lists() {
+    let mut out = [0u8; 8192];
+    let start = put::format(&mut out);
+    let nodes = put::names(&mut out, start, b'a', 128);
+    let ands = put::tps(&mut out, nodes, 128);
+    let nots = put::ands(&mut out, ands, 127);
+    let end = put::stack(&mut out, nots, &NOT, 254, 255);
+    let len = put::end(&mut out, end, 256);
+    say::reading(b"128 free names", &out, len);
+    let mut exact = [7u32; 256];
+    let mut short = [7u32; 255];
+    let mut long = [7u32; 257];
+    let mut none = [7u32; 1];
+    say::listing(&out, len, &mut exact);
+    say::listing(&out, len, &mut short);
+    say::listing(&out, len, &mut long);
+    say::listing(&out, len, &mut none);
+    say::listing(&out, len - 1, &mut none);
+}
+
 fn main() {
     deep(b"64 deep", 64);
     deep(b"65 deep", 65);
@@ -98,4 +119,5 @@ fn main() {
     named(b"the same with a digit first", b'0', 1);
     short();
     largest();
+    lists();
 }

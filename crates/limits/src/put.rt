@@ -74,6 +74,16 @@ pub fn calls(out: &mut [u8; 8192], at: usize, count: u16) -> usize {
     end
 }
 
+// Tps of the names from 0 on.
+pub fn tps(out: &mut [u8; 8192], at: usize, count: u8) -> usize {
+    let mut end = at;
+    for k in 0..count {
+        let slot = all(out, end, b"\x1a\0");
+        end = byte(out, slot, k);
+    }
+    end
+}
+
 fn pair(out: &mut [u8; 8192], at: usize, kind: u8, left: NodeNo, right: NodeNo) -> usize {
     let one = byte(out, at, kind);
     let two = reference(out, one, left);

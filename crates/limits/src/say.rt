@@ -1,4 +1,6 @@
-// What the reader says, as lines of text.
+// What the reader and the list say, as lines of text.
+use noravilump::list;
+use paper::Listing;
 use paper::NameNo;
 use paper::Verdict;
 use record::access::name;
@@ -68,4 +70,51 @@ pub fn lookup(out: &[u8; 8192], len: usize, x: u8) {
     text(b": \"");
     text(found);
     text(b"\"\n");
+}
+
+fn listed(l: Listing) {
+    match l {
+        Listing::Listed(count) => {
+            number(count);
+            text(b" entries");
+        }
+        Listing::NoRoom(needed) => {
+            text(b"50, ");
+            number(needed);
+            text(b" needed");
+        }
+        Listing::Refused {
+            number: n,
+            offset: _,
+        } => {
+            text(b"refused ");
+            number(n as usize);
+        }
+    }
+}
+
+fn entry(v: u32) {
+    text(b", ");
+    number(v as usize);
+}
+
+fn entry_at(entries: &[u32], i: usize) {
+    if i < entries.len() {
+        entry(entries[i]);
+    }
+}
+
+// A line for the list of that record: the answer, and the first and the last entry of the buffer afterwards.
+pub fn listing(out: &[u8; 8192], len: usize, entries: &mut [u32]) {
+    let room = entries.len();
+    let l = list(part(out, len), entries);
+    text(b"  a buffer of ");
+    number(room);
+    text(b": ");
+    listed(l);
+    entry_at(entries, 0);
+    if 0 < room {
+        entry_at(entries, room - 1);
+    }
+    text(b"\n");
 }

@@ -94,8 +94,8 @@ pub fn demands(bytes: &[u8]) -> Answer
         return passed_answer(v);
     };
     let mut one = [0u32; 1];
-    let count = check_demands(bytes, &a.starts, root(nodes), &mut one, 0);
-    first(count, one[0])
+    let owed = check_demands(bytes, &a.starts, root(nodes), &mut one, 0);
+    first(owed, one[0])
 }
 
 // A refusal of the reader; or whether arithmetic is an operand of a comparison.
