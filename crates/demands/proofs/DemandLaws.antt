@@ -17,10 +17,11 @@ use Rattle.paper.specs.declared.Node.{Node}
 use Rattle.paper.specs.declared.Node.the-variants as node
 use Rattle.paper.specs.Record.{condition as condition-sort, term, pick, node-no}
 use Rattle.paper.specs.Sets.{Set, none, _∪_, _∖_}
-use Rattle.paper.specs.Tree.{Condition, Term, Tree, as-condition, as-term, planted}
-use Rattle.paper.specs.FreeAndRestricted.{named, binder-names, free, term-free, arguments-free, items-free, restricted, tied}
+use Rattle.paper.specs.TurnedAway.{Contents}
+use Rattle.paper.specs.Tree.{Condition, Term, Tree, as-condition, as-term, planted, root}
+use Rattle.paper.specs.FreeAndRestricted.{named, binder-names, free, term-free, arguments-free, items-free, restricted, tied, holds-sigil}
 use Rattle.paper.specs.Places.{Spot, condition, operand, Place, asked-at, for-names, gather, findings, found}
-use Rattle.paper.specs.Demands.{comparison-broken, demand-below, demand-broken}
+use Rattle.paper.specs.Demands.{comparison-broken, demand-below, demand-broken, demands-part}
 use Rattle.paper.proofs.Walks.{found-at}
 use Rattle.paper.proofs.Exact.{extent-pos, demand-shrinks}
 use Rattle.trees.specs.Trees.{tree-of, condition-of, term-of, binders-of}
@@ -44,6 +45,11 @@ of-past formerly a = a .children .0
 of-past previous a = a .children .0
 
 -- ---- from a place on
+
+-- from the root on it is document 01's part of the list
+pub demands-are : (c : Contents) → demands-part c ≡ pick (holds-sigil (root c)) [] (demanded true (condition (root c)) none)
+unfolding demands-part demanded
+demands-are c = refl
 
 -- what is found at some places and below them
 abbrev walked : List Place → List Finding
@@ -92,11 +98,11 @@ module _ (ties : Set) {bytes starts : List ℕ} {i : ℕ} where
   in-below : {m : Node} → Arm bytes starts i m → below-it (condition-of bytes i) ties ≡ below-it (as-condition (planted (tree-of bytes) (node-no i) m)) ties
   in-below a = ap (λ (t : Tree). below-it (as-condition t) ties) (a .tree)
 
-  pub below-and : {grown : Set} {l r : NodeNo} → grown ≡ ties ∪ restricted (condition-of bytes (l .0)) → Arm bytes starts i (node.And l r)
+  pub below-and : {grown : Set} {l r : NodeNo} → Arm bytes starts i (node.And l r) → grown ≡ ties ∪ restricted (condition-of bytes (l .0))
       → below-it (condition-of bytes i) ties
       ≡ demanded true (condition (condition-of bytes (l .0))) ties ++ demanded true (condition (condition-of bytes (r .0))) grown
   unfolding planted as-condition below-it demand-below
-  below-and e a = in-below a ∙ two _ _ refl e
+  below-and a e = in-below a ∙ two _ _ refl e
 
   pub below-or : {l r : NodeNo} → Arm bytes starts i (node.Or l r)
       → below-it (condition-of bytes i) ties
@@ -104,11 +110,11 @@ module _ (ties : Set) {bytes starts : List ℕ} {i : ℕ} where
   unfolding planted as-condition below-it demand-below
   below-or a = in-below a ∙ two _ _ refl refl
 
-  pub below-since : {grown : Set} {l r : NodeNo} {w : ℕ} → grown ≡ ties ∪ restricted (condition-of bytes (r .0)) → Arm bytes starts i (node.Since l r w)
+  pub below-since : {grown : Set} {l r : NodeNo} {w : ℕ} → Arm bytes starts i (node.Since l r w) → grown ≡ ties ∪ restricted (condition-of bytes (r .0))
       → below-it (condition-of bytes i) ties
       ≡ demanded true (condition (condition-of bytes (l .0))) grown ++ demanded true (condition (condition-of bytes (r .0))) ties
   unfolding planted as-condition below-it demand-below
-  below-since e a = in-below a ∙ two _ _ e refl
+  below-since a e = in-below a ∙ two _ _ e refl
 
   pub below-not : {b : NodeNo} → Arm bytes starts i (node.Not b)
       → below-it (condition-of bytes i) ties ≡ demanded false (condition (condition-of bytes (b .0))) ties
@@ -126,10 +132,10 @@ module _ (ties : Set) {bytes starts : List ℕ} {i : ℕ} where
   below-past formerly a = in-below a ∙ one _ _ refl
   below-past previous a = in-below a ∙ one _ _ refl
 
-  pub below-exists : {inner : Set} {s : Slot} {y : ℕ} {b : NodeNo} → inner ≡ ties ∖ named s → Arm bytes starts i (node.Exists s y b)
+  pub below-exists : {inner : Set} {s : Slot} {y : ℕ} {b : NodeNo} → Arm bytes starts i (node.Exists s y b) → inner ≡ ties ∖ named s
       → below-it (condition-of bytes i) ties ≡ demanded true (condition (condition-of bytes (b .0))) inner
   unfolding planted as-condition below-it demand-below
-  below-exists e a = in-below a ∙ one _ _ e
+  below-exists a e = in-below a ∙ one _ _ e
 
   pub below-comparison : {o : ℕ} {l r : NodeNo} → Arm bytes starts i (node.Comparison o l r)
       → below-it (condition-of bytes i) ties ≡ demanded true (operand (term-of bytes (l .0))) ties ++ demanded true (operand (term-of bytes (r .0))) ties
@@ -147,11 +153,11 @@ module _ (ties : Set) {bytes starts : List ℕ} {i : ℕ} where
   unfolding planted as-term demand-below
   operand-arith a = in-operand a ∙ at-operand _ ties ∙ two _ _ refl refl
 
-  pub operand-aggregate : {inner : Set} {l b : NodeNo} {m : Node} → inner ≡ ties ∖ binder-names (binders-of bytes (l .0)) → Aggregate l b m → Arm bytes starts i m
+  pub operand-aggregate : {inner : Set} {l b : NodeNo} {m : Node} → Aggregate l b m → Arm bytes starts i m → inner ≡ ties ∖ binder-names (binders-of bytes (l .0))
       → demanded true (operand (term-of bytes i)) ties ≡ demanded true (condition (condition-of bytes (b .0))) inner
   unfolding planted as-term demand-below
-  operand-aggregate e sum a = in-operand a ∙ at-operand _ ties ∙ one _ _ e
-  operand-aggregate e count a = in-operand a ∙ at-operand _ ties ∙ one _ _ e
+  operand-aggregate sum a e = in-operand a ∙ at-operand _ ties ∙ one _ _ e
+  operand-aggregate count a e = in-operand a ∙ at-operand _ ties ∙ one _ _ e
 
 -- ---- a condition's own entries
 
@@ -188,21 +194,21 @@ module _ (ties : Set) {bytes starts : List ℕ} {i : ℕ} where
   in-owed : {m : Node} → Arm bytes starts i m → owed (condition-of bytes i) ties ≡ owed (as-condition (planted (tree-of bytes) (node-no i) m)) ties
   in-owed a = ap (λ (t : Tree). owed (as-condition t) ties) (a .tree)
 
-  pub owed-comparison : {side : Tied} {left right : Set} {o : ℕ} {l r : NodeNo} → side ≡ tied o (term-of bytes (l .0)) (term-of bytes (r .0))
-      → left ≡ free-in (tree-of bytes (l .0)) → right ≡ free-in (tree-of bytes (r .0)) → Arm bytes starts i (node.Comparison o l r)
+  pub owed-comparison : {side : Tied} {left right : Set} {o : ℕ} {l r : NodeNo} → Arm bytes starts i (node.Comparison o l r)
+      → side ≡ tied o (term-of bytes (l .0)) (term-of bytes (r .0)) → left ≡ free-in (tree-of bytes (l .0)) → right ≡ free-in (tree-of bytes (r .0))
       → owed (condition-of bytes i) ties ≡ owed-compared (node-no i) side left right ties
   unfolding planted as-condition owed demand-broken
-  owed-comparison s p q a = in-owed a ∙ compared _ _ _ _ _ s (p ∙ free-side (a .children .0)) (q ∙ free-side (a .children .1 .0))
+  owed-comparison a s p q = in-owed a ∙ compared _ _ _ _ _ s (p ∙ free-side (a .children .0)) (q ∙ free-side (a .children .1 .0))
 
-  pub owed-not : {needs : Set} {b : NodeNo} → needs ≡ free (condition-of bytes (b .0)) → Arm bytes starts i (node.Not b)
+  pub owed-not : {needs : Set} {b : NodeNo} → Arm bytes starts i (node.Not b) → needs ≡ free (condition-of bytes (b .0))
       → owed (condition-of bytes i) ties ≡ findings (for-names 31 (node-no i) (needs ∖ ties))
   unfolding planted as-condition owed demand-broken gather
-  owed-not e a = in-owed a ∙ append-nil _ ∙ ap (λ (z : Set). findings (for-names 31 (node-no i) (z ∖ ties))) (sym e)
+  owed-not a e = in-owed a ∙ append-nil _ ∙ ap (λ (z : Set). findings (for-names 31 (node-no i) (z ∖ ties))) (sym e)
 
-  pub owed-since : {needs known : Set} {l r : NodeNo} {w : ℕ} → needs ≡ free (condition-of bytes (l .0)) → known ≡ ties ∪ restricted (condition-of bytes (r .0))
-      → Arm bytes starts i (node.Since l r w) → owed (condition-of bytes i) ties ≡ findings (for-names 32 (node-no i) (needs ∖ known))
+  pub owed-since : {needs known : Set} {l r : NodeNo} {w : ℕ} → Arm bytes starts i (node.Since l r w) → needs ≡ free (condition-of bytes (l .0))
+      → known ≡ ties ∪ restricted (condition-of bytes (r .0)) → owed (condition-of bytes i) ties ≡ findings (for-names 32 (node-no i) (needs ∖ known))
   unfolding planted as-condition owed demand-broken gather
-  owed-since e k a = in-owed a ∙ append-nil _ ∙ ap₂ (λ (x y : Set). findings (for-names 32 (node-no i) (x ∖ y))) (sym e) (sym k)
+  owed-since a e k = in-owed a ∙ append-nil _ ∙ ap₂ (λ (x y : Set). findings (for-names 32 (node-no i) (x ∖ y))) (sym e) (sym k)
 
 -- ---- the other kinds
 

@@ -38,7 +38,8 @@ fn reject_unmet_var(
     emit(out, at, rule, n, unmet)
 }
 
-// The entries of a comparison itself, from the free names of its sides: 30 for the value that ties a variable, 31 for any other.
+// The entries of a comparison itself, from the free names of its sides: 30 for the value that ties
+// a variable, 31 where none is tied.
 fn check_comparison_demands(
     n: NodeNo,
     side: Tied,
@@ -116,7 +117,8 @@ fn check_own_demands(
     at
 }
 
-// The entries of a condition and of what lies below it.
+// The entries of a condition and of what lies below it. What is tied grows on the right of And by
+// the left and on the left of Since by the right, and a binder takes its name out of it.
 pub fn check_chain(
     bytes: &[u8],
     starts: &[u16; 512],

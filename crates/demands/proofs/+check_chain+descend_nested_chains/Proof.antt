@@ -1,5 +1,5 @@
 -- `check_chain` and `descend_nested_chains` write what is demanded from a condition and from an operand on. The measure is the node's number. What each arm
--- writes stands first, by the law of its kind; then the needs in the order of the code.
+-- writes, by the law of its kind, stands first, so that a wrong arm is refused there; then the needs in the order of the code.
 use mathlib.Core.Path.{_≡_, refl, ap₂, _∙_}
 use mathlib.Core.Logic.{⊎-elim}
 use denote.Ref.{now}
@@ -93,7 +93,7 @@ and-writes t c =
     let a = chain-arm t (c .before .before .before .before .before .before .before .before .before .before .before .before .before .before .before .before .before) (c .before .before .before .before .before .before .before .before .before .before .before .node .given .1) in
     let grown = c .before .before .before .before .before .before .before .before .union .ensures ∙ ap₂ _∪_ refl (c .before .before .before .before .before .before .before .before .before .collect-range-restricted .ensures) in
     wrote-own-first _ _ _ (c .before .before .before .before .before .before .before .before .before .before .before .before .before .before .before .check-own-demands .ensures)
-    (wrote-is (below-and _ grown a) (wrote-then (c .before .before .before .before .before .before .check-chain .ensures) (c .before .before .check-chain2 .ensures)))
+    (wrote-is (below-and _ a grown) (wrote-then (c .before .before .before .before .before .before .check-chain .ensures) (c .before .before .check-chain2 .ensures)))
 
 or-writes : (t : ℕ) → check-chain-lts.Need-returns-2 (chain-claims t) (chain-at t) check-chain.Post
 or-writes t c =
@@ -118,14 +118,14 @@ since-writes t c =
     let a = chain-arm t (c .before .before .before .before .before .before .before .before .before .before .before .before .before .before .before .before .before) (c .before .before .before .before .before .before .before .before .before .before .before .node7 .given .1) in
     let grown = c .before .before .before .before .before .before .before .before .union2 .ensures ∙ ap₂ _∪_ refl (c .before .before .before .before .before .before .before .before .before .collect-range-restricted2 .ensures) in
     wrote-own-first _ _ _ (c .before .before .before .before .before .before .before .before .before .before .before .before .before .before .before .check-own-demands .ensures)
-    (wrote-is (below-since _ grown a) (wrote-then (c .before .before .before .before .before .before .check-chain7 .ensures) (c .before .before .check-chain8 .ensures)))
+    (wrote-is (below-since _ a grown) (wrote-then (c .before .before .before .before .before .before .check-chain7 .ensures) (c .before .before .check-chain8 .ensures)))
 
 exists-writes : (t : ℕ) → check-chain-lts.Need-returns-6 (chain-claims t) (chain-at t) check-chain.Post
 exists-writes t c =
     let a = chain-arm t (c .before .before .before .before .before .before .before .before .before .before .before .before .before) (c .before .before .before .before .before .before .before .node8 .given .1) in
     let inner = c .before .before .before .before .minus .ensures ∙ ap₂ _∖_ refl (c .before .before .before .before .before .slot-name .ensures) in
     wrote-own-first _ _ _ (c .before .before .before .before .before .before .before .before .before .before .before .check-own-demands .ensures)
-    (wrote-is (below-exists _ inner a) (c .before .before .check-chain9 .ensures))
+    (wrote-is (below-exists _ a inner) (c .before .before .check-chain9 .ensures))
 
 comparison-writes : (t : ℕ) → check-chain-lts.Need-returns-7 (chain-claims t) (chain-at t) check-chain.Post
 comparison-writes t c =
@@ -159,7 +159,7 @@ aggregate-writes : (t : ℕ) → descend-nested-chains-lts.Need-returns-3 (opera
 aggregate-writes t c =
     let a = operand-arm t (c .before .before .before .before .before .before .before) refl in
     let inner = c .before .before .before .before .minus .ensures ∙ ap₂ _∖_ refl (c .before .before .before .before .before .binder-names .ensures) in
-    wrote-is (operand-aggregate _ inner (aggregate t (c .before .before .before .before .before .before)) a) (c .before .before .check-chain .ensures)
+    wrote-is (operand-aggregate _ (aggregate t (c .before .before .before .before .before .before)) a inner) (c .before .before .check-chain .ensures)
 
 pub +check-chain+descend-nested-chains-spec : {M : Type 1} → statement M
 +check-chain+descend-nested-chains-spec =
@@ -170,8 +170,8 @@ pub +check-chain+descend-nested-chains-spec : {M : Type 1} → statement M
     (λ c. search needs)
     (λ c κs. let a = chain-arm t (c .before .before .before .before .before .before .before) (c .before .node .given .1) in search (a .children .0 .has, a .children .1 .0 .has))
     (λ c κs. search needs)
-    (λ c κs. let a = chain-arm t (c .before .before .before .before .before .before .before .before .before .before) (c .before .before .before .before .node .given .1) in let d = down (a .children .0) (c .before .before .before .before .before .before .before .before .before .before .before .before .before .pre .0) in (d .0, (d .1, room-first _ _ (room-is (below-and _ refl a) (chain-room t (c .before .before .before .before .before .before))))))
-    (λ c κs. let a = chain-arm t (c .before .before .before .before .before .before .before .before .before .before .before .before .before .before) (c .before .before .before .before .before .before .before .before .node .given .1) in let d = down (a .children .1 .0) (c .before .before .before .before .before .before .before .before .before .before .before .before .before .before .before .before .before .pre .0) in (d .0, (d .1, room-rest _ _ (c .before .before .before .check-chain .ensures) (omega (arith, c .before .before .before .check-chain .ensures .total)) (room-is (below-and _ (c .before .before .before .before .before .union .ensures ∙ ap₂ _∪_ refl (c .before .before .before .before .before .before .collect-range-restricted .ensures)) a) (chain-room t (c .before .before .before .before .before .before .before .before .before .before))))))
+    (λ c κs. let a = chain-arm t (c .before .before .before .before .before .before .before .before .before .before) (c .before .before .before .before .node .given .1) in let d = down (a .children .0) (c .before .before .before .before .before .before .before .before .before .before .before .before .before .pre .0) in (d .0, (d .1, room-first _ _ (room-is (below-and _ a refl) (chain-room t (c .before .before .before .before .before .before))))))
+    (λ c κs. let a = chain-arm t (c .before .before .before .before .before .before .before .before .before .before .before .before .before .before) (c .before .before .before .before .before .before .before .before .node .given .1) in let d = down (a .children .1 .0) (c .before .before .before .before .before .before .before .before .before .before .before .before .before .before .before .before .before .pre .0) in (d .0, (d .1, room-rest _ _ (c .before .before .before .check-chain .ensures) (omega (arith, c .before .before .before .check-chain .ensures .total)) (room-is (below-and _ a (c .before .before .before .before .before .union .ensures ∙ ap₂ _∪_ refl (c .before .before .before .before .before .before .collect-range-restricted .ensures))) (chain-room t (c .before .before .before .before .before .before .before .before .before .before))))))
     (λ c. search needs)
     (λ c κs. let a = chain-arm t (c .before .before .before .before .before .before .before .before) (c .before .before .node2 .given .1) in let d = down (a .children .0) (c .before .before .before .before .before .before .before .before .before .before .before .pre .0) in (d .0, (d .1, room-first _ _ (room-is (below-or _ a) (chain-room t (c .before .before .before .before))))))
     (λ c κs. let a = chain-arm t (c .before .before .before .before .before .before .before .before .before .before .before .before) (c .before .before .before .before .before .before .node2 .given .1) in let d = down (a .children .1 .0) (c .before .before .before .before .before .before .before .before .before .before .before .before .before .before .before .pre .0) in (d .0, (d .1, room-rest _ _ (c .before .before .before .check-chain3 .ensures) (omega (arith, c .before .before .before .check-chain3 .ensures .total)) (room-is (below-or _ a) (chain-room t (c .before .before .before .before .before .before .before .before))))))
@@ -184,12 +184,12 @@ pub +check-chain+descend-nested-chains-spec : {M : Type 1} → statement M
     (λ c. search needs)
     (λ c κs. let a = chain-arm t (c .before .before .before .before .before .before .before) (c .before .node7 .given .1) in search (a .children .0 .has, a .children .1 .0 .has))
     (λ c κs. search needs)
-    (λ c κs. let a = chain-arm t (c .before .before .before .before .before .before .before .before .before .before) (c .before .before .before .before .node7 .given .1) in let d = down (a .children .0) (c .before .before .before .before .before .before .before .before .before .before .before .before .before .pre .0) in (d .0, (d .1, room-first _ _ (room-is (below-since _ (c .before .union2 .ensures ∙ ap₂ _∪_ refl (c .before .before .collect-range-restricted2 .ensures)) a) (chain-room t (c .before .before .before .before .before .before))))))
-    (λ c κs. let a = chain-arm t (c .before .before .before .before .before .before .before .before .before .before .before .before .before .before) (c .before .before .before .before .before .before .before .before .node7 .given .1) in let d = down (a .children .1 .0) (c .before .before .before .before .before .before .before .before .before .before .before .before .before .before .before .before .before .pre .0) in (d .0, (d .1, room-rest _ _ (c .before .before .before .check-chain7 .ensures) (omega (arith, c .before .before .before .check-chain7 .ensures .total)) (room-is (below-since _ (c .before .before .before .before .before .union2 .ensures ∙ ap₂ _∪_ refl (c .before .before .before .before .before .before .collect-range-restricted2 .ensures)) a) (chain-room t (c .before .before .before .before .before .before .before .before .before .before))))))
+    (λ c κs. let a = chain-arm t (c .before .before .before .before .before .before .before .before .before .before) (c .before .before .before .before .node7 .given .1) in let d = down (a .children .0) (c .before .before .before .before .before .before .before .before .before .before .before .before .before .pre .0) in (d .0, (d .1, room-first _ _ (room-is (below-since _ a (c .before .union2 .ensures ∙ ap₂ _∪_ refl (c .before .before .collect-range-restricted2 .ensures))) (chain-room t (c .before .before .before .before .before .before))))))
+    (λ c κs. let a = chain-arm t (c .before .before .before .before .before .before .before .before .before .before .before .before .before .before) (c .before .before .before .before .before .before .before .before .node7 .given .1) in let d = down (a .children .1 .0) (c .before .before .before .before .before .before .before .before .before .before .before .before .before .before .before .before .before .pre .0) in (d .0, (d .1, room-rest _ _ (c .before .before .before .check-chain7 .ensures) (omega (arith, c .before .before .before .check-chain7 .ensures .total)) (room-is (below-since _ a (c .before .before .before .before .before .union2 .ensures ∙ ap₂ _∪_ refl (c .before .before .before .before .before .before .collect-range-restricted2 .ensures))) (chain-room t (c .before .before .before .before .before .before .before .before .before .before))))))
     (λ c. search needs)
     (λ c κs. slot-tabled (c .before .node8 .given .0 .0) (chain-arm t (c .before .before .before .before .before .before .before) (c .before .node8 .given .1) .tabled))
     (λ c κs. search needs)
-    (λ c κs. let a = chain-arm t (c .before .before .before .before .before .before .before .before .before .before) (c .before .before .before .before .node8 .given .1) in let d = down (a .children .0) (c .before .before .before .before .before .before .before .before .before .before .before .before .before .pre .0) in (d .0, (d .1, room-is (below-exists _ (c .before .minus .ensures ∙ ap₂ _∖_ refl (c .before .before .slot-name .ensures)) a) (chain-room t (c .before .before .before .before .before .before)))))
+    (λ c κs. let a = chain-arm t (c .before .before .before .before .before .before .before .before .before .before) (c .before .before .before .before .node8 .given .1) in let d = down (a .children .0) (c .before .before .before .before .before .before .before .before .before .before .before .before .before .pre .0) in (d .0, (d .1, room-is (below-exists _ a (c .before .minus .ensures ∙ ap₂ _∖_ refl (c .before .before .slot-name .ensures))) (chain-room t (c .before .before .before .before .before .before)))))
     (λ c. search needs)
     (λ c κs. let a = chain-arm t (c .before .before .before .before .before .before .before .before) (c .before .before .node9 .given .1) in let d = down (a .children .0) (c .before .before .before .before .before .before .before .before .before .before .before .pre .0) in (d .0, (d .1, room-first _ _ (room-is (below-comparison _ a) (chain-room t (c .before .before .before .before))))))
     (λ c κs. let a = chain-arm t (c .before .before .before .before .before .before .before .before .before .before .before .before) (c .before .before .before .before .before .before .node9 .given .1) in let d = down (a .children .1 .0) (c .before .before .before .before .before .before .before .before .before .before .before .before .before .before .before .pre .0) in (d .0, (d .1, room-rest _ _ (c .before .before .before .descend-nested-chains .ensures) (omega (arith, c .before .before .before .descend-nested-chains .ensures .total)) (room-is (below-comparison _ a) (chain-room t (c .before .before .before .before .before .before .before .before))))))
@@ -221,7 +221,7 @@ pub +check-chain+descend-nested-chains-spec : {M : Type 1} → statement M
     (λ c. search needs)
     (λ c κs. of-aggregate (aggregate t (c)) (operand-arm t (c .before) refl) .0 .has)
     (λ c κs. search needs)
-    (λ c κs. let a = operand-arm t (c .before .before .before .before) refl in let d = down (of-aggregate (aggregate t (c .before .before .before)) a .1) (c .before .before .before .before .before .before .before .pre .0) in (d .0, (d .1, room-is (operand-aggregate _ (c .before .minus .ensures ∙ ap₂ _∖_ refl (c .before .before .binder-names .ensures)) (aggregate t (c .before .before .before)) a) (c .before .before .before .before .before .before .before .pre .1 .1))))
+    (λ c κs. let a = operand-arm t (c .before .before .before .before) refl in let d = down (of-aggregate (aggregate t (c .before .before .before)) a .1) (c .before .before .before .before .before .before .before .pre .0) in (d .0, (d .1, room-is (operand-aggregate _ (aggregate t (c .before .before .before)) a (c .before .minus .ensures ∙ ap₂ _∖_ refl (c .before .before .binder-names .ensures))) (c .before .before .before .before .before .before .before .pre .1 .1))))
     (λ c. search needs)
     (arith-writes t)
     (other-operand-writes t)
