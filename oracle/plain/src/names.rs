@@ -1,4 +1,4 @@
-//! Document 01's free and restricted names, and what holds a sigil.
+//! Document 01's free and restricted names, and what holds a sigil. What stands in quotes is document 01's text.
 
 use crate::record::{NameNumber, Node, NodeNumber, Record, Slot};
 
@@ -43,7 +43,9 @@ pub struct BinderCell {
 }
 
 impl Record {
-    /// Of a condition, a term, or a list of arguments or items.
+    /// Of a condition, a term, or a list of arguments or items: "variables anywhere in terms (arrays, arithmetic, predicate arguments,
+    /// refinement fields), named tp slots; exists removes its named binder; an aggregate gives its body's free names less its named
+    /// binders. The summed slot adds nothing. Calls and sigils give none."
     pub fn free(&self, number: NodeNumber) -> Names {
         match self.node(number) {
             Node::And { left, right }
@@ -79,6 +81,8 @@ impl Record {
         }
     }
 
+    /// "And joins both sides; Not and Or give none; a predicate's direct Var arguments; a named tp; Formerly and Previous their body; Since
+    /// its right; Exists its body less the binder; Refine its base plus direct Var fields; an equality with exactly one bare variable gives it".
     pub fn restricted(&self, condition: NodeNumber) -> Names {
         match self.node(condition) {
             Node::And { left, right } => self.restricted(left) | self.restricted(right),
@@ -95,6 +99,7 @@ impl Record {
         }
     }
 
+    /// Of "an equality with exactly one bare variable".
     pub fn binding(&self, op: u8, left: NodeNumber, right: NodeNumber) -> Option<Binding> {
         if op != EQUALITY {
             return None;
@@ -114,6 +119,7 @@ impl Record {
         }
     }
 
+    /// "A wildcard or arithmetic containing one": an array that has one is a value.
     fn is_open(&self, term: NodeNumber) -> bool {
         match self.node(term) {
             Node::Wildcard => true,
@@ -122,7 +128,7 @@ impl Record {
         }
     }
 
-    /// Of a term or a list of items, through arithmetic and arrays.
+    /// Of a term or a list of items: "at any depth through arithmetic and arrays".
     pub fn has_wildcard(&self, number: NodeNumber) -> bool {
         match self.node(number) {
             Node::Wildcard => true,
@@ -157,7 +163,8 @@ impl Record {
             .fold(0, |names, cell| names | named(cell.slot))
     }
 
-    /// Of a condition, a term, or a list.
+    /// Of a condition, a term, or a list: "Call, SigilRef, aggregate Call, ParamRef, BinderRef anywhere, or a sigil tp slot. Sigil slots of
+    /// exists, binder cells and sums don't count."
     pub fn holds_sigil(&self, number: NodeNumber) -> bool {
         let node = self.node(number);
         is_itself_sigil(&node)
