@@ -1,5 +1,7 @@
 //! Document 01's free and restricted names, and what holds a sigil. What stands in quotes is document 01's text.
 
+use std::collections::BTreeSet;
+
 use crate::record::{NameNumber, Node, NodeNumber, Record, Slot};
 
 /// A bit for each name of the table.
@@ -43,6 +45,16 @@ pub struct BinderCell {
 }
 
 impl Record {
+    /// The names of the table that are among these; a bit past the table is no name's.
+    pub fn texts(&self, names: Names) -> BTreeSet<String> {
+        (0..)
+            .map(NameNumber)
+            .zip(&self.names)
+            .filter(|(number, _)| names & only(*number) != 0)
+            .map(|(_, text)| text.clone())
+            .collect()
+    }
+
     /// Of a condition, a term, or a list of arguments or items: "variables anywhere in terms (arrays, arithmetic, predicate arguments,
     /// refinement fields), named tp slots; exists removes its named binder; an aggregate gives its body's free names less its named
     /// binders. The summed slot adds nothing. Calls and sigils give none."
