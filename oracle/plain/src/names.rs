@@ -1,6 +1,7 @@
 //! Document 01's free and restricted names, and what holds a sigil. What stands in quotes is document 01's text.
 
 use std::collections::BTreeSet;
+use std::iter;
 
 use crate::record::{NameNumber, Node, NodeNumber, Record, Slot};
 
@@ -27,10 +28,12 @@ pub fn is_sigil(slot: Slot) -> bool {
     }
 }
 
-pub fn ascending(names: Names) -> impl Iterator<Item = NameNumber> {
-    (0..128)
-        .map(NameNumber)
-        .filter(move |&name| names & only(name) != 0)
+pub fn ascending(mut names: Names) -> impl Iterator<Item = NameNumber> {
+    iter::from_fn(move || {
+        let least = (names != 0).then(|| NameNumber(names.trailing_zeros() as u8))?;
+        names &= !only(least);
+        Some(least)
+    })
 }
 
 /// The side of a binding equality that its name is bound to, and the name.
