@@ -1,8 +1,7 @@
 //! What a run has met.
 
-use crate::answers::Answers;
+use crate::comparing::Met;
 use crate::shapes::Shapes;
-use crate::Reading;
 
 /// One in so many accepted records. The rarest shape is in one of 90; one that only damage still makes falls below this.
 const SELDOM: usize = 200;
@@ -17,12 +16,12 @@ pub struct Tally {
 }
 
 impl Tally {
-    pub fn add(&mut self, reading: &Reading, answers: &Answers) {
-        match reading {
+    pub fn add(&mut self, met: &Met) {
+        match &met.reading {
             Ok(record) => {
                 self.accepted += 1;
-                self.not_closed += usize::from(answers.is_not_closed());
-                self.with_arithmetic += usize::from(answers.has_arithmetic());
+                self.not_closed += usize::from(met.answers.closedness.number != 0);
+                self.with_arithmetic += usize::from(met.answers.arithmetic.number != 0);
                 self.shapes.add(record);
             }
             Err(refusal) => self.refused[refusal.number as usize - 1] += 1,

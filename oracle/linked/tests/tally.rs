@@ -1,7 +1,11 @@
-use linked::answers::Answers;
+mod slips;
+
+use linked::comparing::Comparer;
+use linked::inputs::Input;
+use linked::seeds::SEEDS;
 use linked::tally::Tally;
 use plain::cases::all;
-use plain::read;
+use slips::NO_SLIP;
 
 const ANSWERS: [&str; 4] = [
     "closedness 28",
@@ -20,11 +24,16 @@ fn an_empty_run_has_met_no_answer_and_no_shape() {
 #[test]
 fn the_cases_and_one_refusal_are_counted() {
     let mut tally = Tally::default();
-    let mut add = |bytes: &[u8]| tally.add(&read(bytes), &Answers::of_the_proved(bytes));
-    for case in all().unwrap() {
-        add(&case.bytes);
+    let mut comparer = Comparer::new(NO_SLIP);
+    let cases = all().unwrap().into_iter().map(|case| case.bytes);
+    for bytes in cases.chain([vec![0x01, 0x02]]) {
+        let input = Input {
+            bytes,
+            name: 0,
+            seeds: [0; SEEDS],
+        };
+        tally.add(&comparer.compare(&input).ok().unwrap());
     }
-    add(&[0x01, 0x02]);
     assert_eq!(
         tally.lines()[..2],
         [

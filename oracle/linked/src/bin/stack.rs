@@ -6,7 +6,7 @@ use std::ptr;
 use std::thread;
 
 use linked::records::{balanced, chain};
-use linked::{arithmetic, closedness, name_length, read, Asked};
+use linked::{Asked, Library, Proved};
 
 const MOST: usize = 48 * 1024;
 /// Painted below the caller, and left out because the painter stands there itself.
@@ -20,23 +20,23 @@ fn main() -> ExitCode {
     let used = [
         (
             "reading 64 deep",
-            on_own_stack(deep.clone(), |bytes| read(bytes).place),
+            on_own_stack(deep.clone(), |bytes| Proved.read(bytes).place),
         ),
         (
             "reading 128 names and 511 nodes",
-            on_own_stack(wide.clone(), |bytes| read(bytes).place),
+            on_own_stack(wide.clone(), |bytes| Proved.read(bytes).place),
         ),
         (
             "the name lookup in it",
-            on_own_stack(wide, |bytes| name_length(bytes, 127)),
+            on_own_stack(wide, |bytes| Proved.name_length(bytes, 127)),
         ),
         (
             "closedness 64 deep",
-            on_own_stack(deep.clone(), |bytes| accepted(closedness(bytes))),
+            on_own_stack(deep.clone(), |bytes| accepted(Proved.closedness(bytes))),
         ),
         (
             "the arithmetic test 64 deep",
-            on_own_stack(deep, |bytes| accepted(arithmetic(bytes))),
+            on_own_stack(deep, |bytes| accepted(Proved.arithmetic(bytes))),
         ),
     ];
     for (what, bytes) in used {
