@@ -2,8 +2,10 @@
 
 pub mod answers;
 pub mod comparing;
+pub mod findings;
 pub mod inputs;
 pub mod lending;
+mod listed;
 mod proved;
 pub mod records;
 pub mod seeds;
