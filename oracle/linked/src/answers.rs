@@ -1,67 +1,133 @@
-//! What the proved library answers to the questions, and what the plain second implementation and the Rust do, in the same numbers.
+//! What a library answers to the questions, and what the plain second implementation and the Rust do, in the same numbers.
+
+use std::fmt::Debug;
 
 use plain::answers::{self, Answer};
 use plain::lists::{self, Entry};
 use plain::{Record, Refusal};
 
-use crate::{arithmetic, closedness, Asked, Reading, NO_NAME};
+use crate::seeds::{Seeds, SEEDS};
+use crate::{Asked, Library, Reading, NO_NAME};
 
-const NOT_CLOSED: usize = 28;
 const HAS_ARITHMETIC: usize = 40;
 
+const QUESTIONS: [&str; SEEDS + 3] = [
+    "scoping without a seed",
+    "scoping with the full seed",
+    "scoping with the first random seed",
+    "scoping with the second random seed",
+    "scoping with the third random seed",
+    "closedness",
+    "demands",
+    "arithmetic",
+];
+
+/// In document 01's numbers, or what of them the Rust has.
 #[derive(Debug, Clone, Copy, PartialEq, Eq)]
-pub struct Answers {
-    pub closedness: Asked,
-    pub arithmetic: Asked,
+pub struct Answers<A> {
+    /// One for each seed.
+    pub scoping: [A; SEEDS],
+    pub closedness: A,
+    pub demands: A,
+    pub arithmetic: A,
 }
 
-impl Answers {
-    pub fn of_the_proved(bytes: &[u8]) -> Answers {
+/// The Rust has no nodes.
+#[derive(Debug, Clone, Copy, PartialEq, Eq)]
+pub struct RuleAndName {
+    pub rule: usize,
+    pub name: usize,
+}
+
+impl Answers<Asked> {
+    pub fn of_the_library(library: &impl Library, bytes: &[u8], seeds: &Seeds) -> Answers<Asked> {
         Answers {
-            closedness: closedness(bytes),
-            arithmetic: arithmetic(bytes),
+            scoping: seeds.map(|seed| library.scoping(bytes, seed)),
+            closedness: library.closedness(bytes),
+            demands: library.demands(bytes),
+            arithmetic: library.arithmetic(bytes),
         }
     }
 
-    pub fn of_the_plain(reading: &Reading) -> Answers {
+    pub fn of_the_plain(reading: &Reading, seeds: &Seeds) -> Answers<Asked> {
         match reading {
             Ok(record) => Answers {
+                scoping: seeds.map(|seed| first(&lists::scoping(record, seed))),
                 closedness: first(&lists::closedness(record)),
+                demands: first(&lists::demands(record)),
                 arithmetic: yes_or_no(lists::arithmetic(record)),
             },
-            Err(refusal) => Answers {
-                closedness: refused(refusal),
-                arithmetic: refused(refusal),
-            },
+            Err(refusal) => Answers::all_alike(refused(refusal)),
         }
     }
 
-    pub fn of_the_rust(record: &Record) -> Answers {
-        let condition = plain::condition(record);
+    fn all_alike(answer: Asked) -> Answers<Asked> {
         Answers {
-            closedness: numbered(&answers::closedness(&condition), record),
-            arithmetic: numbered(&answers::arithmetic(&condition), record),
+            scoping: [answer; SEEDS],
+            closedness: answer,
+            demands: answer,
+            arithmetic: answer,
         }
     }
 
-    pub fn is_not_closed(&self) -> bool {
-        self.closedness.number == NOT_CLOSED
+    pub fn rules_and_names(&self) -> Answers<RuleAndName> {
+        Answers {
+            scoping: self.scoping.map(rule_and_name),
+            closedness: rule_and_name(self.closedness),
+            demands: rule_and_name(self.demands),
+            arithmetic: rule_and_name(self.arithmetic),
+        }
+    }
+}
+
+impl Answers<RuleAndName> {
+    pub fn of_the_rust(record: &Record, seeds: &Seeds) -> Answers<RuleAndName> {
+        let condition = plain::condition(record);
+        let said = |answer: Answer| numbered(&answer, record);
+        Answers {
+            scoping: seeds.map(|seed| said(answers::scoping(&condition, &record.texts(seed)))),
+            closedness: said(answers::closedness(&condition)),
+            demands: said(answers::demands(&condition)),
+            arithmetic: said(answers::arithmetic(&condition)),
+        }
+    }
+}
+
+impl<A: Copy + Debug + PartialEq> Answers<A> {
+    /// The first question that another answers otherwise, and both answers.
+    pub fn difference(&self, other: &Answers<A>) -> Option<(&'static str, A, A)> {
+        let both = self.in_order().into_iter().zip(other.in_order());
+        QUESTIONS
+            .into_iter()
+            .zip(both)
+            .map(|(question, (one, another))| (question, one, another))
+            .find(|(_, one, another)| one != another)
     }
 
-    pub fn has_arithmetic(&self) -> bool {
-        self.arithmetic.number == HAS_ARITHMETIC
+    fn in_order(&self) -> [A; SEEDS + 3] {
+        let [none, full, first, second, third] = self.scoping;
+        [
+            none,
+            full,
+            first,
+            second,
+            third,
+            self.closedness,
+            self.demands,
+            self.arithmetic,
+        ]
     }
 }
 
 /// "Accepted", and the arithmetic test's "no".
-const NOTHING: Asked = Asked {
+pub const NOTHING: Asked = Asked {
     number: 0,
     place: 0,
     name: NO_NAME,
 };
 
-fn first(entries: &[Entry]) -> Asked {
-    entries.first().map_or(NOTHING, |entry| Asked {
+pub fn first<'a>(entries: impl IntoIterator<Item = &'a Entry>) -> Asked {
+    entries.into_iter().next().map_or(NOTHING, |entry| Asked {
         number: entry.rule as usize,
         place: usize::from(entry.node),
         name: entry.name.map_or(NO_NAME, usize::from),
@@ -75,7 +141,7 @@ fn yes_or_no(yes: bool) -> Asked {
     }
 }
 
-fn refused(refusal: &Refusal) -> Asked {
+pub fn refused(refusal: &Refusal) -> Asked {
     Asked {
         number: refusal.number as usize,
         place: refusal.offset,
@@ -83,13 +149,16 @@ fn refused(refusal: &Refusal) -> Asked {
     }
 }
 
-/// The Rust has no nodes: document 01 puts 28 at the root, and these questions' other answers nowhere.
-fn numbered(answer: &Answer, record: &Record) -> Asked {
-    let number = answer.rule as usize;
-    let root = usize::from(record.root().0);
-    Asked {
-        number,
-        place: if number == NOT_CLOSED { root } else { 0 },
+fn rule_and_name(answer: Asked) -> RuleAndName {
+    RuleAndName {
+        rule: answer.number,
+        name: answer.name,
+    }
+}
+
+fn numbered(answer: &Answer, record: &Record) -> RuleAndName {
+    RuleAndName {
+        rule: answer.rule as usize,
         name: answer
             .name
             .as_ref()

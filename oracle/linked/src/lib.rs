@@ -1,11 +1,20 @@
-//! The proved library, behind safe functions.
+//! The proved library behind safe functions, and what it is held to.
 
 pub mod answers;
+pub mod comparing;
+pub mod findings;
+pub mod inputs;
+pub mod lending;
+mod listed;
+mod proved;
 pub mod records;
+pub mod seeds;
 pub mod shapes;
 pub mod tally;
 
 use plain::{Record, Refusal};
+
+pub use proved::Proved;
 
 /// What the plain second reader makes of bytes.
 pub type Reading = Result<Record, Refusal>;
@@ -19,7 +28,8 @@ pub struct Probed {
     pub place: usize,
 }
 
-/// A rule with its node and its name's number, or a refusal with its offset; 0, 0 and [`NO_NAME`] for accepted and for no.
+/// A rule with its node and its name's number, or a refusal with its offset; 0, 0 and [`NO_NAME`] for accepted and for no. Of the list: 0
+/// with the count, 50 with the entries needed, or a refusal with its offset.
 #[repr(C)]
 #[derive(Debug, Clone, Copy, PartialEq, Eq)]
 pub struct Asked {
@@ -30,53 +40,14 @@ pub struct Asked {
 
 pub const NO_NAME: usize = 255;
 
-unsafe extern "C" {
-    fn probe_read(bytes: *const u8, length: usize) -> Probed;
-    fn probe_name_length(bytes: *const u8, length: usize, number: u8) -> usize;
-    fn probe_closedness(bytes: *const u8, length: usize) -> Asked;
-    fn probe_arithmetic(bytes: *const u8, length: usize) -> Asked;
-}
-
-pub fn read(bytes: &[u8]) -> Probed {
-    // SAFETY: the contract asks nothing of the caller but a slice, and reads only that.
-    unsafe { probe_read(bytes.as_ptr(), bytes.len()) }
-}
-
-pub fn name_length(bytes: &[u8], number: u8) -> usize {
-    // SAFETY: as above.
-    unsafe { probe_name_length(bytes.as_ptr(), bytes.len(), number) }
-}
-
-pub fn closedness(bytes: &[u8]) -> Asked {
-    // SAFETY: as above.
-    unsafe { probe_closedness(bytes.as_ptr(), bytes.len()) }
-}
-
-pub fn arithmetic(bytes: &[u8]) -> Asked {
-    // SAFETY: as above.
-    unsafe { probe_arithmetic(bytes.as_ptr(), bytes.len()) }
-}
-
-/// What the plain second reader says, in the same numbers.
-pub fn plain_read(reading: &Reading) -> Probed {
-    match reading {
-        Ok(record) => Probed {
-            number: 0,
-            names: record.names.len(),
-            place: record.nodes.len(),
-        },
-        Err(refusal) => Probed {
-            number: refusal.number as usize,
-            names: 0,
-            place: refusal.offset,
-        },
-    }
-}
-
-pub fn plain_name_length(reading: &Reading, number: u8) -> usize {
-    reading
-        .as_ref()
-        .ok()
-        .and_then(|record| record.names.get(usize::from(number)))
-        .map_or(0, String::len)
+/// What is asked of the proved library: a wrong one in its place shows that the comparing notices it.
+pub trait Library {
+    fn read(&self, bytes: &[u8]) -> Probed;
+    fn name_length(&self, bytes: &[u8], number: u8) -> usize;
+    /// The seed has a bit for each name in scope, name 0 lowest.
+    fn scoping(&self, bytes: &[u8], seed: u128) -> Asked;
+    fn closedness(&self, bytes: &[u8]) -> Asked;
+    fn demands(&self, bytes: &[u8]) -> Asked;
+    fn arithmetic(&self, bytes: &[u8]) -> Asked;
+    fn list(&self, bytes: &[u8], lent: &mut [u32]) -> Asked;
 }

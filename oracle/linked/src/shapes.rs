@@ -3,8 +3,11 @@
 use std::collections::{BTreeMap, BTreeSet};
 use std::ops::RangeInclusive;
 
+use plain::lists::Entry;
 use plain::names::{is_sigil, named, Names};
 use plain::{Node, NodeNumber, Record};
+
+use crate::findings::{self, findings_of};
 
 #[derive(Default)]
 pub struct Shapes {
@@ -13,11 +16,12 @@ pub struct Shapes {
 }
 
 impl Shapes {
-    pub fn add(&mut self, record: &Record) {
+    pub fn add(&mut self, record: &Record, list: &[Entry]) {
         for kind in kinds_of(record) {
             *self.kinds.entry(kind).or_default() += 1;
         }
-        for shape in shapes_of(record) {
+        let findings = findings_of(record, list);
+        for shape in shapes_of(record).into_iter().chain(findings) {
             *self.others.entry(shape).or_default() += 1;
         }
     }
@@ -25,7 +29,7 @@ impl Shapes {
     /// One for each group.
     pub fn lines(&self) -> Vec<String> {
         let kinds = KINDS.iter().map(|kinds| self.line_of_kinds(kinds));
-        let others = GROUPS.iter().map(|group| self.line_of_shapes(group));
+        let others = groups().map(|group| self.line_of_shapes(&group));
         kinds.chain(others).collect()
     }
 
@@ -35,10 +39,10 @@ impl Shapes {
         format!("records with each kind from {first:02X} to {last:02X}: {counts:?}")
     }
 
-    fn line_of_shapes(&self, group: &[Shape]) -> String {
+    fn line_of_shapes(&self, group: &[&'static str]) -> String {
         let counts: Vec<String> = group
             .iter()
-            .map(|shape| format!("{} {}", shape.label, self.with_shape(shape)))
+            .map(|label| format!("{label} {}", self.with_shape(label)))
             .collect();
         format!("records with: {}", counts.join(", "))
     }
@@ -50,11 +54,10 @@ impl Shapes {
             .flatten()
             .filter(|&kind| self.with_kind(kind) <= most)
             .map(|kind| format!("kind {kind:02X}"));
-        let others = GROUPS
-            .into_iter()
+        let others = groups()
             .flatten()
-            .filter(|shape| self.with_shape(shape) <= most)
-            .map(|shape| shape.label.to_string());
+            .filter(|label| self.with_shape(label) <= most)
+            .map(str::to_string);
         kinds.chain(others).collect()
     }
 
@@ -62,9 +65,17 @@ impl Shapes {
         self.kinds.get(&kind).copied().unwrap_or(0)
     }
 
-    fn with_shape(&self, shape: &Shape) -> usize {
-        self.others.get(shape.label).copied().unwrap_or(0)
+    fn with_shape(&self, label: &str) -> usize {
+        self.others.get(label).copied().unwrap_or(0)
     }
+}
+
+/// The labels of shapes and of findings.
+fn groups() -> impl Iterator<Item = Vec<&'static str>> {
+    let shapes = GROUPS
+        .iter()
+        .map(|group| group.iter().map(|shape| shape.label).collect());
+    shapes.chain(findings::groups())
 }
 
 /// Document 01's conditions, terms and lists.
@@ -139,14 +150,14 @@ fn shadows(record: &Record, bound_again: fn(&Record, Node) -> Names) -> bool {
     })
 }
 
-fn bound_by_exists(_: &Record, node: Node) -> Names {
+pub(crate) fn bound_by_exists(_: &Record, node: Node) -> Names {
     match node {
         Node::Exists { slot, .. } => named(slot),
         _ => 0,
     }
 }
 
-fn bound_by_aggregate(record: &Record, node: Node) -> Names {
+pub(crate) fn bound_by_aggregate(record: &Record, node: Node) -> Names {
     match node {
         Node::Sum { binders, .. } | Node::Count { binders, .. } => record.bound(binders),
         _ => 0,
@@ -178,7 +189,7 @@ fn has_aggregate_in_body(record: &Record) -> bool {
         .any(|(_, body)| is_within(record, body, &is_aggregate))
 }
 
-fn is_aggregate(node: Node) -> bool {
+pub(crate) fn is_aggregate(node: Node) -> bool {
     matches!(node, Node::Sum { .. } | Node::Count { .. })
 }
 

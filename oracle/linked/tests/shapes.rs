@@ -1,23 +1,15 @@
+mod nodes;
+
 use linked::shapes::{shapes_of, Shapes};
-use plain::{read, Record};
+use nodes::record;
+use plain::lists::list;
+use plain::Record;
 
 const CALL: &[u8] = &[0x1B, 0, 0];
 const TP_X: &[u8] = &[0x1A, 0, 0];
 const ZERO: &[u8] = &[0x22, 0, 0];
 const WILDCARD: &[u8] = &[0x21];
 const LIST_END: &[u8] = &[0x30];
-
-fn record(names: &[&str], nodes: &[&[u8]]) -> Record {
-    let mut bytes = vec![0x01, 0x01];
-    for text in names {
-        bytes.push(0x02);
-        bytes.extend(text.bytes().chain(std::iter::repeat(0)).take(24));
-    }
-    bytes.extend(nodes.concat());
-    bytes.push(0x7F);
-    bytes.extend((nodes.len() as u16).to_le_bytes());
-    read(&bytes).unwrap()
-}
 
 /// Of nodes over a table of x, number 0, and y, number 1.
 fn assert_shapes<const N: usize>(nodes: &[&[u8]], shapes: [&str; N]) {
@@ -254,13 +246,13 @@ fn free_name_above_63() {
 fn each_record_counts_once_and_what_it_has_is_met() {
     let mut shapes = Shapes::default();
     let all = shapes.seldom_met(0);
-    assert_eq!(all.len(), 29 + 14);
+    assert_eq!(all.len(), 29 + 14 + 24);
     // exists ?0. tp(x)
     let sigil = record(&["x"], &[TP_X, &[0x16, 1, 0, 0, 0, 0]]);
     // exists ?0. exists ?0. call
     let sigils = record(&[], &[CALL, &[0x16, 1, 0, 0, 0, 0], &[0x16, 1, 0, 0, 1, 0]]);
-    shapes.add(&sigil);
-    shapes.add(&sigils);
+    shapes.add(&sigil, &list(&sigil));
+    shapes.add(&sigils, &list(&sigils));
     let met = ["kind 16", "kind 1A", "kind 1B", "sigil exists"];
     let never: Vec<String> = all
         .into_iter()

@@ -1,4 +1,4 @@
-//! Document 01's list: every rule that is not met, with its node and its name, in its order.
+//! Document 01's list: every rule that is not met, with its node and its name, in its order. What stands in quotes is document 01's text.
 
 use crate::names::{ascending, is_sigil, named, Names};
 use crate::record::{NameNumber, Node, NodeNumber, Record, Slot};
@@ -13,7 +13,7 @@ pub struct Entry {
 const RESERVED: [&str; 4] = ["principal", "action", "resource", "context"];
 const NO_NAME: u8 = 255;
 
-/// 20 to 27, with the names that the caller has in scope.
+/// 20 to 27, with the names that the caller has in scope. "Bits past the table have no effect": no slot and no variable has such a name.
 pub fn scoping(record: &Record, seed: u128) -> Vec<Entry> {
     let mut walk = Scoping {
         record,
@@ -23,13 +23,14 @@ pub fn scoping(record: &Record, seed: u128) -> Vec<Entry> {
     walk.found
 }
 
-/// 28.
+/// "28: each free name, ascending, at the root."
 pub fn closedness(record: &Record) -> Vec<Entry> {
     let root = record.root();
     about_each(28, root, record.free(root)).collect()
 }
 
-/// 30 to 32.
+/// 30 to 32. "If the whole condition holds a sigil, no demand is asked. Otherwise the tied names of a place follow its path: none at the
+/// root".
 pub fn demands(record: &Record) -> Vec<Entry> {
     let mut walk = Demands {
         record,
@@ -41,15 +42,17 @@ pub fn demands(record: &Record) -> Vec<Entry> {
     walk.found
 }
 
+/// "Parts: 20 to 27 with an empty seed, then 28, then 30 to 32."
 pub fn list(record: &Record) -> Vec<Entry> {
     [scoping(record, 0), closedness(record), demands(record)].concat()
 }
 
+/// "One 32-bit number: rule times 16,777,216, plus node times 256, plus name, or 255 where there is none".
 pub fn pack(entry: &Entry) -> u32 {
     entry.rule * 16_777_216 + u32::from(entry.node) * 256 + u32::from(entry.name.unwrap_or(NO_NAME))
 }
 
-/// Whether arithmetic is an operand of a comparison.
+/// "If Arith is a comparison operand, also inside an operand aggregate's body. Arrays, predicate arguments and fields are not searched."
 pub fn arithmetic(record: &Record) -> bool {
     condition_has_arithmetic(record, record.root())
 }
@@ -74,6 +77,7 @@ fn nameless(rule: u32, node: NodeNumber) -> Entry {
     }
 }
 
+/// "Entries go in preorder, node before children, left first": the order in which the walk comes to them, whatever the numbers are.
 struct Scoping<'a> {
     record: &'a Record,
     found: Vec<Entry>,
@@ -87,6 +91,7 @@ struct Aggregate {
 }
 
 impl Scoping<'_> {
+    /// "The walk enters every condition child." A scope grows on the way down alone: "the named binders above".
     fn condition(&mut self, number: NodeNumber, scope: Names) {
         match self.record.node(number) {
             Node::And { left, right }
@@ -99,6 +104,7 @@ impl Scoping<'_> {
             | Node::Formerly { body: child, .. }
             | Node::Previous { body: child, .. }
             | Node::Refine { base: child, .. } => self.condition(child, scope),
+            // "At one exists by rule."
             Node::Exists { slot, body, .. } => {
                 self.reserved(number, slot);
                 self.unrestricted_exists(number, slot, body);
@@ -108,12 +114,14 @@ impl Scoping<'_> {
                 self.operand(left, scope);
                 self.operand(right, scope);
             }
+            // "Each predicate argument" is searched; "Refinement fields are not searched."
             Node::Predicate { arguments, .. } => self.search(arguments),
             Node::Tp { slot } => self.reserved(number, slot),
             _ => {}
         }
     }
 
+    /// "It enters operands through arithmetic to aggregates; any other operand [..] is searched". An aggregate Call has nothing to enter.
     fn operand(&mut self, number: NodeNumber, scope: Names) {
         match self.record.node(number) {
             Node::Arith { left, right, .. } => {
@@ -147,7 +155,7 @@ impl Scoping<'_> {
         }
     }
 
-    /// In a term, or a list of arguments or items.
+    /// In a term, or a list of arguments or items: "through arrays: an aggregate there is 20, arithmetic 21, and neither is entered".
     fn search(&mut self, number: NodeNumber) {
         match self.record.node(number) {
             Node::Sum { .. } | Node::Count { .. } | Node::AggregateCall { .. } => {
@@ -163,6 +171,7 @@ impl Scoping<'_> {
         }
     }
 
+    /// "22: a named exists, binder-cell or tp slot is principal, action, resource or context." A summed slot is none of these.
     fn reserved(&mut self, node: NodeNumber, slot: Slot) {
         if let Slot::Name(name) = slot {
             if RESERVED.contains(&self.record.name(name)) {
@@ -171,6 +180,7 @@ impl Scoping<'_> {
         }
     }
 
+    /// "23: a named exists binder is not restricted in its body. Skipped if the body holds a sigil."
     fn unrestricted_exists(&mut self, node: NodeNumber, slot: Slot, body: NodeNumber) {
         if !self.record.holds_sigil(body) {
             let unrestricted = named(slot) & !self.record.restricted(body);
@@ -178,6 +188,8 @@ impl Scoping<'_> {
         }
     }
 
+    /// "24: summed name not among its binders; 25: a free name of the body neither in scope nor a binder; 26: a binder not free in the
+    /// body; 27: a binder not restricted in it", and "by rule, then list order, or name for 25, all before its body's".
     fn aggregate(&mut self, aggregate: Aggregate, scope: Names) {
         if self.has_sigil_slot(&aggregate) {
             return;
@@ -198,6 +210,7 @@ impl Scoping<'_> {
         self.condition(aggregate.body, scope | bound);
     }
 
+    /// "An aggregate whose summed slot or any binder is a sigil is skipped, body included."
     fn has_sigil_slot(&self, aggregate: &Aggregate) -> bool {
         aggregate.summed.is_some_and(is_sigil)
             || self
@@ -207,6 +220,7 @@ impl Scoping<'_> {
                 .any(|cell| is_sigil(cell.slot))
     }
 
+    /// "22, 26, 27 of an aggregate stand at the binder cell": two cells that bind one name have an entry each.
     fn cells_outside(&mut self, rule: u32, binders: NodeNumber, names: Names) {
         for cell in self.record.binder_cells(binders) {
             self.found
@@ -215,6 +229,7 @@ impl Scoping<'_> {
     }
 }
 
+/// "Entries in preorder, then by name." What is tied at a place is known from the path to it: no finding changes it.
 struct Demands<'a> {
     record: &'a Record,
     found: Vec<Entry>,
@@ -226,6 +241,8 @@ impl Demands<'_> {
         self.below(number, tied);
     }
 
+    /// "30, binding equality: the other side's free names must be tied. 31, other comparison, or Not: all its free names. 32, Since: free
+    /// names of the left, tied or restricted by the right."
     fn ask(&mut self, number: NodeNumber, tied: Names) {
         let (rule, demanded) = match self.record.node(number) {
             Node::Comparison { op, left, right } => match self.record.binding(op, left, right) {
@@ -243,6 +260,8 @@ impl Demands<'_> {
             .extend(about_each(rule, number, demanded & !tied));
     }
 
+    /// "Right of And adds what the left restricts; left of Since adds what the right restricts; exists and aggregate bodies drop their named
+    /// binders; every other step keeps the set. Every reached condition is asked, unless it is directly under Not or Refine."
     fn below(&mut self, number: NodeNumber, tied: Names) {
         match self.record.node(number) {
             Node::And { left, right } => {
@@ -270,6 +289,7 @@ impl Demands<'_> {
         }
     }
 
+    /// "Aggregate bodies are reached from comparisons through arithmetic only, also unasked ones, whatever their binders."
     fn operand(&mut self, number: NodeNumber, tied: Names) {
         match self.record.node(number) {
             Node::Arith { left, right, .. } => {

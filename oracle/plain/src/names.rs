@@ -1,4 +1,7 @@
-//! Document 01's free and restricted names, and what holds a sigil.
+//! Document 01's free and restricted names, and what holds a sigil. What stands in quotes is document 01's text.
+
+use std::collections::BTreeSet;
+use std::iter;
 
 use crate::record::{NameNumber, Node, NodeNumber, Record, Slot};
 
@@ -25,10 +28,12 @@ pub fn is_sigil(slot: Slot) -> bool {
     }
 }
 
-pub fn ascending(names: Names) -> impl Iterator<Item = NameNumber> {
-    (0..128)
-        .map(NameNumber)
-        .filter(move |&name| names & only(name) != 0)
+pub fn ascending(mut names: Names) -> impl Iterator<Item = NameNumber> {
+    iter::from_fn(move || {
+        let least = (names != 0).then(|| NameNumber(names.trailing_zeros() as u8))?;
+        names &= !only(least);
+        Some(least)
+    })
 }
 
 /// The side of a binding equality that its name is bound to, and the name.
@@ -43,7 +48,19 @@ pub struct BinderCell {
 }
 
 impl Record {
-    /// Of a condition, a term, or a list of arguments or items.
+    /// The names of the table that are among these; a bit past the table is no name's.
+    pub fn texts(&self, names: Names) -> BTreeSet<String> {
+        (0..)
+            .map(NameNumber)
+            .zip(&self.names)
+            .filter(|(number, _)| names & only(*number) != 0)
+            .map(|(_, text)| text.clone())
+            .collect()
+    }
+
+    /// Of a condition, a term, or a list of arguments or items: "variables anywhere in terms (arrays, arithmetic, predicate arguments,
+    /// refinement fields), named tp slots; exists removes its named binder; an aggregate gives its body's free names less its named
+    /// binders. The summed slot adds nothing. Calls and sigils give none."
     pub fn free(&self, number: NodeNumber) -> Names {
         match self.node(number) {
             Node::And { left, right }
@@ -79,6 +96,8 @@ impl Record {
         }
     }
 
+    /// "And joins both sides; Not and Or give none; a predicate's direct Var arguments; a named tp; Formerly and Previous their body; Since
+    /// its right; Exists its body less the binder; Refine its base plus direct Var fields; an equality with exactly one bare variable gives it".
     pub fn restricted(&self, condition: NodeNumber) -> Names {
         match self.node(condition) {
             Node::And { left, right } => self.restricted(left) | self.restricted(right),
@@ -95,6 +114,7 @@ impl Record {
         }
     }
 
+    /// Of "an equality with exactly one bare variable".
     pub fn binding(&self, op: u8, left: NodeNumber, right: NodeNumber) -> Option<Binding> {
         if op != EQUALITY {
             return None;
@@ -114,6 +134,7 @@ impl Record {
         }
     }
 
+    /// "A wildcard or arithmetic containing one": an array that has one is a value.
     fn is_open(&self, term: NodeNumber) -> bool {
         match self.node(term) {
             Node::Wildcard => true,
@@ -122,7 +143,7 @@ impl Record {
         }
     }
 
-    /// Of a term or a list of items, through arithmetic and arrays.
+    /// Of a term or a list of items: "at any depth through arithmetic and arrays".
     pub fn has_wildcard(&self, number: NodeNumber) -> bool {
         match self.node(number) {
             Node::Wildcard => true,
@@ -157,7 +178,8 @@ impl Record {
             .fold(0, |names, cell| names | named(cell.slot))
     }
 
-    /// Of a condition, a term, or a list.
+    /// Of a condition, a term, or a list: "Call, SigilRef, aggregate Call, ParamRef, BinderRef anywhere, or a sigil tp slot. Sigil slots of
+    /// exists, binder cells and sums don't count."
     pub fn holds_sigil(&self, number: NodeNumber) -> bool {
         let node = self.node(number);
         is_itself_sigil(&node)

@@ -3,8 +3,8 @@
 use std::hint::black_box;
 use std::time::Instant;
 
-use linked::read;
 use linked::records::balanced;
+use linked::{Library, Proved};
 use plain::random::{record, Rng};
 
 const RUNS: usize = 15;
@@ -31,25 +31,25 @@ fn main() {
 fn among_all_kinds(fixed: f64, name: f64) {
     let mut rng = Rng::new(1);
     let records: Vec<_> = (0..MIXED).map(|_| record(&mut rng, 400)).collect();
-    let names: usize = records.iter().map(|bytes| read(bytes).names).sum();
-    let nodes: usize = records.iter().map(|bytes| read(bytes).place).sum();
+    let names: usize = records.iter().map(|bytes| Proved.read(bytes).names).sum();
+    let nodes: usize = records.iter().map(|bytes| Proved.read(bytes).place).sum();
     let a_node = |all: f64| (all - fixed * MIXED as f64 - name * names as f64) / nodes as f64;
     println!(
         "a node of all kinds {:.1} ns, {:.1} ns in a record seen for the first time",
         a_node(records.iter().map(|bytes| again(bytes)).sum()),
         a_node(best(|| {
             for bytes in &records {
-                black_box(read(black_box(bytes)));
+                black_box(Proved.read(black_box(bytes)));
             }
         }))
     );
 }
 
 fn again(bytes: &[u8]) -> f64 {
-    assert_eq!(read(bytes).number, 0, "what is measured is read");
+    assert_eq!(Proved.read(bytes).number, 0, "what is measured is read");
     let all = best(|| {
         for _ in 0..READS {
-            black_box(read(black_box(bytes)));
+            black_box(Proved.read(black_box(bytes)));
         }
     });
     all / READS as f64

@@ -5,8 +5,8 @@ use std::process::ExitCode;
 use std::ptr;
 use std::thread;
 
-use linked::records::{balanced, chain};
-use linked::{arithmetic, closedness, name_length, read, Asked};
+use linked::records::{balanced, chain, deep_by_terms, tower, tower_over_all, LAYERS};
+use linked::{Library, Proved};
 
 const MOST: usize = 48 * 1024;
 /// Painted below the caller, and left out because the painter stands there itself.
@@ -14,62 +14,101 @@ const PAINTED: usize = 256 * 1024;
 const SKIPPED: usize = 512;
 const PAINT: u8 = 0xA5;
 
+const NAMES: usize = 128;
+const DEPTH: usize = 64;
+/// More than any list has.
+const ROOM: usize = 65_536;
+
+/// By the bytes and a buffer to lend; document 01's number.
+type Ask = fn(&[u8], &mut [u32]) -> usize;
+
+const QUESTIONS: [(&str, Ask); 7] = [
+    ("reading", |bytes, _| Proved.read(bytes).number),
+    ("the name lookup", |bytes, _| look_up_the_last(bytes)),
+    ("scoping", |bytes, _| Proved.scoping(bytes, 0).number),
+    ("closedness", |bytes, _| Proved.closedness(bytes).number),
+    ("demands", |bytes, _| Proved.demands(bytes).number),
+    ("the arithmetic test", |bytes, _| {
+        Proved.arithmetic(bytes).number
+    }),
+    ("the list", |bytes, lent| Proved.list(bytes, lent).number),
+];
+
+fn look_up_the_last(bytes: &[u8]) -> usize {
+    let length = Proved.name_length(bytes, (NAMES - 1) as u8);
+    assert_ne!(length, 0, "the table is full");
+    0
+}
+
+/// A record, and what it is at the limit by.
+type Limit = (&'static str, Vec<u8>);
+
 fn main() -> ExitCode {
-    let deep = chain(128, 64);
-    let wide = balanced(128, 511);
-    let used = [
-        (
-            "reading 64 deep",
-            on_own_stack(deep.clone(), |bytes| read(bytes).place),
-        ),
-        (
-            "reading 128 names and 511 nodes",
-            on_own_stack(wide.clone(), |bytes| read(bytes).place),
-        ),
-        (
-            "the name lookup in it",
-            on_own_stack(wide, |bytes| name_length(bytes, 127)),
-        ),
-        (
-            "closedness 64 deep",
-            on_own_stack(deep.clone(), |bytes| accepted(closedness(bytes))),
-        ),
-        (
-            "the arithmetic test 64 deep",
-            on_own_stack(deep, |bytes| accepted(arithmetic(bytes))),
-        ),
-    ];
-    for (what, bytes) in used {
-        println!("{what}: {bytes} bytes of stack");
+    let [deep, wide] = [deep(), wide()];
+    let mut most = 0;
+    for (question, ask) in QUESTIONS {
+        for (limit, records) in [("64 deep", &deep), ("at the widest", &wide)] {
+            let (used, by) = most_used(ask, records);
+            println!("{question} {limit}: {used} bytes of stack, by {by}");
+            most = most.max(used);
+        }
     }
-    if used.iter().any(|(_, bytes)| *bytes > MOST) {
+    if most > MOST {
         eprintln!("more than {MOST} bytes");
         return ExitCode::FAILURE;
     }
     ExitCode::SUCCESS
 }
 
-/// Not 0, as every question here answers where it accepts.
-fn accepted(answer: Asked) -> usize {
-    usize::from(answer.number == 0)
+/// Each way to go deep once, since it is not known here which of them takes the most.
+fn deep() -> Vec<Limit> {
+    let towers = LAYERS
+        .iter()
+        .map(|layer| (layer.label, tower(NAMES, DEPTH, || layer)));
+    towers
+        .chain(deep_by_terms(NAMES, DEPTH))
+        .chain([("Nots over a Call", chain(NAMES, DEPTH))])
+        .collect()
+}
+
+fn wide() -> Vec<Limit> {
+    let towers = LAYERS
+        .iter()
+        .map(|layer| (layer.label, tower_over_all(NAMES, DEPTH, || layer)));
+    towers
+        .chain([("511 nodes", balanced(NAMES, 511))])
+        .collect()
+}
+
+/// The most, and the first record that takes it.
+fn most_used(ask: Ask, records: &[Limit]) -> (usize, &'static str) {
+    records
+        .iter()
+        .rev()
+        .map(|(by, bytes)| (on_own_stack(bytes.clone(), ask), *by))
+        .max_by_key(|(used, _)| *used)
+        .expect("there is a record")
 }
 
 /// A thread of its own, so that what is painted belongs to nobody.
-fn on_own_stack(bytes: Vec<u8>, question: fn(&[u8]) -> usize) -> usize {
+fn on_own_stack(bytes: Vec<u8>, ask: Ask) -> usize {
+    let mut lent = vec![0; ROOM];
     thread::Builder::new()
         .stack_size(2 * PAINTED)
         .spawn(move || {
             let top = paint();
-            assert_ne!(
-                black_box(question(black_box(&bytes))),
-                0,
-                "the record is accepted"
-            );
-            deepest(top)
+            let number = black_box(ask(black_box(&bytes), &mut lent));
+            let used = deepest(top);
+            assert!(!is_refusal(number), "the record is accepted: {number}");
+            used
         })
         .expect("a thread starts")
         .join()
         .expect("the question answers")
+}
+
+fn is_refusal(number: usize) -> bool {
+    matches!(number, 1..=13 | 50)
 }
 
 #[inline(never)]

@@ -172,16 +172,30 @@ const SUMMANDS: [Shape; 7] = [
     shape(0x2A, 3, MOST_NODES, 2),
 ];
 
-const LISTED: [Shape; 9] = [
+const ARGUMENTS: [Shape; 10] = [
     shape(0x20, 1, MOST_NODES, 12),
     shape(0x21, 1, MOST_NODES, 5),
     shape(0x22, 1, MOST_NODES, 1),
     shape(0x23, 1, MOST_NODES, 1),
     shape(0x24, 1, MOST_NODES, 1),
     shape(0x27, 2, MOST_NODES, 3),
+    // In such a room an array can hold what may not stand in it.
+    shape(0x27, 6, MOST_NODES, 60),
     shape(0x28, 3, MOST_NODES, 3),
     shape(0x29, 3, MOST_NODES, 1),
     shape(0x2A, 3, MOST_NODES, 1),
+];
+
+const ITEMS: [Shape; 9] = [
+    shape(0x20, 1, MOST_NODES, 6),
+    shape(0x21, 1, MOST_NODES, 3),
+    shape(0x22, 1, MOST_NODES, 1),
+    shape(0x23, 1, MOST_NODES, 1),
+    shape(0x24, 1, MOST_NODES, 1),
+    shape(0x27, 2, MOST_NODES, 2),
+    shape(0x28, 3, MOST_NODES, 9),
+    shape(0x29, 3, MOST_NODES, 4),
+    shape(0x2A, 3, MOST_NODES, 4),
 ];
 
 enum Field {
@@ -350,12 +364,12 @@ impl Growth<'_> {
         if !room.has_children() || room.nodes < 3 || self.rng.one_in(5) {
             return self.list_end();
         }
-        let mut fields = Vec::new();
-        if kind == 0x31 {
-            fields.extend(self.any_two());
-        }
-        let [term, rest] = self.halves(room);
-        fields.push(self.term(&LISTED, term));
+        let (mut fields, shapes): (Vec<Field>, &[Shape]) = match kind {
+            0x31 => (self.any_two().into(), &ARGUMENTS),
+            _ => (Vec::new(), &ITEMS),
+        };
+        let [term, rest] = self.large_and_rest(room);
+        fields.push(self.term(shapes, term));
         fields.push(self.list(kind, rest));
         Field::Child(self.node(kind, fields))
     }
@@ -389,6 +403,16 @@ impl Growth<'_> {
     fn halves(&mut self, room: Room) -> [Room; 2] {
         let first = 1 + self.rng.below(room.nodes - 2);
         room.for_two_children(first)
+    }
+
+    /// More often than not more than a half.
+    fn large_and_rest(&mut self, room: Room) -> [Room; 2] {
+        let [one, other] = [self.halves(room), self.halves(room)];
+        if one[0].nodes > other[0].nodes {
+            one
+        } else {
+            other
+        }
     }
 
     fn small_and_rest(&mut self, room: Room, most: usize) -> [Room; 2] {

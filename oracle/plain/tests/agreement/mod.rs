@@ -1,5 +1,3 @@
-use std::collections::BTreeSet;
-
 use plain::answers::{self, Answer};
 use plain::lists::{self, Entry};
 use plain::{condition, NameNumber, Record};
@@ -8,7 +6,7 @@ use plain::{condition, NameNumber, Record};
 pub fn assert_the_rust_agrees(record: &Record, seed: u128) -> [Answer; 4] {
     let c = condition(record);
     let said = [
-        answers::scoping(&c, &names_of(record, seed)),
+        answers::scoping(&c, &record.texts(seed)),
         answers::closedness(&c),
         answers::demands(&c),
         answers::arithmetic(&c),
@@ -21,14 +19,6 @@ pub fn assert_the_rust_agrees(record: &Record, seed: u128) -> [Answer; 4] {
     ];
     assert_eq!(said, listed, "seed {seed} over {record:?}");
     said
-}
-
-fn names_of(record: &Record, seed: u128) -> BTreeSet<String> {
-    (0..)
-        .zip(&record.names)
-        .filter(|(number, _)| seed >> number & 1 == 1)
-        .map(|(_, name)| name.clone())
-        .collect()
 }
 
 fn first(record: &Record, entries: &[Entry]) -> Answer {
