@@ -29,7 +29,7 @@ fn assert_listed(cases: &[Case]) {
 #[test]
 fn the_cases_of_document_01_and_ours() {
     let cases = all().unwrap();
-    assert_eq!(cases.len(), 18);
+    assert_eq!(cases.len(), 21);
     assert_listed(&cases);
 }
 
