@@ -1,3 +1,2 @@
--- What each walk finds at a node, and the first entry of a part.
+-- What the walk for arithmetic finds at a node.
 pub mod ArithLaws
-pub mod ClosedLaws

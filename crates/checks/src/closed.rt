@@ -1,30 +1,25 @@
-// Whether a condition is closed.
+// Whether a condition is closed: 28.
 use free::collect_free;
-use paper::Answer;
-use paper::Finding;
 use paper::NodeNo;
-use paper::Subject;
-ghost use mathlib.Core.Path.{_≡_};
+use writes::emit;
 ghost use Rattle.paper.specs.FreeAndRestricted.{free};
 ghost use Rattle.paper.specs.Places.{for-names, findings};
-ghost use Rattle.paper.specs.Questions.{first};
 ghost use Rattle.record.specs.Stored.{Has};
 ghost use Rattle.trees.specs.Trees.{condition-of};
+ghost use Rattle.writes.specs.Written.{Room, Wrote};
 
-// 28 with the least free name, or accepted.
-pub fn check_leaf_closed(bytes: &[u8], starts: &[u16; 512], i: NodeNo) -> Answer
+// 28 at the node for each of its free names, ascending.
+pub fn check_leaf_closed(
+    bytes: &[u8],
+    starts: &[u16; 512],
+    i: NodeNo,
+    out: &mut [u32],
+    at: usize,
+) -> usize
     requires { ⌜ Has (now bytes) (now starts) (i .0) ⌝ }
-    ensures { λ r. ⌜ r ≡ first (findings (for-names 28 i (free (condition-of (now (bytes .entry)) (i .0))))) ⌝ }
+    requires { ⌜ Room (findings (for-names 28 i (free (condition-of (now bytes) (i .0))))) at ⌝ }
+    ensures { λ r. ⌜ Wrote (findings (for-names 28 i (free (condition-of (now (bytes .entry)) (i .0))))) at r (now (out .entry)) (now (out .exit)) ⌝ }
 {
-    match names::least(collect_free(bytes, starts, i)) {
-        Subject::Name(x) => {
-            let f = Finding {
-                rule: 28,
-                node: i,
-                name: Subject::Name(x),
-            };
-            Answer::Unmet(f)
-        }
-        Subject::NoName => Answer::Accepted,
-    }
+    let open = collect_free(bytes, starts, i);
+    emit(out, at, 28, i, open)
 }

@@ -1,9 +1,8 @@
 -- The parts of the list, over the sets that the code has. Assumes nothing.
-use mathlib.Core.Path.{_≡_, refl, sym, ap₂}
+use mathlib.Core.Path.{_≡_, sym, ap}
 use mathlib.Core.Bool.{true, false}
-use mathlib.Core.List.{List, [], _++_}
+use mathlib.Core.List.{[], _++_}
 use Rattle.paper.specs.declared.NodeNo.{NodeNo}
-use Rattle.paper.specs.declared.Finding.{Finding}
 use Rattle.paper.specs.Sets.{Set, none}
 use Rattle.paper.specs.Tree.{Condition}
 use Rattle.paper.specs.FreeAndRestricted.{free, holds-sigil}
@@ -20,8 +19,7 @@ pub demands-are : (c : Condition) {tied : Set} → tied ≡ none → holds-sigil
 unfolding demands-of
 demands-are c d e = rw (d, e)
 
-pub listed-are : (words : Set) (n : NodeNo) (c : Condition) {scope untied : Set} → scope ≡ none → untied ≡ free c
-    → listed words n c ≡ scoped words (condition c) scope ++ (findings (for-names 28 n untied) ++ demands-of c)
+pub listed-are : (words : Set) (n : NodeNo) (c : Condition) {scope : Set} → scope ≡ none
+    → listed words n c ≡ scoped words (condition c) scope ++ (findings (for-names 28 n (free c)) ++ demands-of c)
 unfolding listed
-listed-are words n c d e =
-    ap₂ (λ (s o : Set). scoped words (condition c) s ++ (findings (for-names 28 n o) ++ demands-of c)) (sym d) (sym e)
+listed-are words n c e = ap (λ (s : Set). scoped words (condition c) s ++ (findings (for-names 28 n (free c)) ++ demands-of c)) (sym e)

@@ -1,11 +1,10 @@
 // The three parts of the list, one after the other.
+use checks::closed::check_leaf_closed;
 use demands::check_chain;
-use free::collect_free;
 use names::Names;
 use paper::NodeNo;
 use scoping::check_condition;
 use sigils::body_has_sigil;
-use writes::emit;
 ghost use Rattle.names.specs.Words.{mem};
 ghost use Rattle.record.specs.Stored.{Has};
 ghost use Rattle.trees.specs.Trees.{condition-of};
@@ -44,8 +43,7 @@ pub fn write_list(
     ensures { λ r. ⌜ Wrote (listed (mem words) i (condition-of (now (bytes .entry)) (i .0))) 0 r (now (out .entry)) (now (out .exit)) ⌝ }
 {
     let scope = names::empty();
-    let open = collect_free(bytes, starts, i);
     let p = check_condition(bytes, starts, i, scope, words, out, 0);
-    let q = emit(out, p, 28, i, open);
+    let q = check_leaf_closed(bytes, starts, i, out, p);
     check_demands(bytes, starts, i, out, q)
 }

@@ -1,3 +1,2 @@
 -- The laws of sets of names in two words, each once over every bit's place.
 pub mod Bits
-pub mod Members

@@ -1,10 +1,9 @@
 // Sets of names, 128 of them in two words by value.
 use paper::NameNo;
-use paper::Subject;
 ghost use mathlib.Core.Path.{_≡_};
 ghost use Prim.Native.Nat.{_<_, _≤_};
-ghost use Rattle.paper.specs.Sets.{none, only, _∪_, _∩_, _∖_, below as below-count, outside, all-below, members};
-ghost use Rattle.names.specs.Words.{bit, mem, first};
+ghost use Rattle.paper.specs.Sets.{none, only, _∪_, _∩_, _∖_, below as below-count, outside, all-below};
+ghost use Rattle.names.specs.Words.{bit, mem};
 
 // Bit k of lo is name k, bit k of hi is name 64 + k.
 pub struct Names {
@@ -109,18 +108,4 @@ pub fn is_empty(s: Names) -> bool
     ensures { λ r. ⌜ r ≡ all-below 128 (outside (mem s)) ⌝ }
 {
     (s.lo == 0) & (s.hi == 0)
-}
-
-// The least name of a set, if it has one.
-pub fn least(s: Names) -> Subject
-    ensures { λ r. ⌜ r ≡ first (members (mem s) 128) ⌝ }
-{
-    let mut k: u8 = 0;
-    while k < 128 {
-        if member(s, NameNo(k)) {
-            return Subject::Name(NameNo(k));
-        }
-        k = k + 1;
-    }
-    Subject::NoName
 }

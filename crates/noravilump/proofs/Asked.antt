@@ -21,9 +21,9 @@ use Rattle.paper.specs.Places.{condition, for-names, findings}
 use Rattle.paper.specs.Scoping.{scoping-part}
 use Rattle.paper.specs.Demands.{closedness-broken, closedness-part, demands-part, has-arith}
 use Rattle.paper.specs.TheList.{the-list, pack, packed}
-use Rattle.paper.specs.Questions.{first, answered, scoping, closedness, demands, arithmetic-of, arithmetic, listing-of, list, buffer-of, list-buffer}
-use Rattle.paper.proofs.Lengths.{scoping-length, demands-length, list-length}
-use Rattle.paper.proofs.Fitting.{scoping-fits, demands-fits}
+use Rattle.paper.specs.Questions.{answered, scoping, closedness, demands, arithmetic-of, arithmetic, listing-of, list, buffer-of, list-buffer}
+use Rattle.paper.proofs.Lengths.{scoping-length, closedness-length, demands-length, list-length}
+use Rattle.paper.proofs.Fitting.{scoping-fits, closedness-fits, demands-fits}
 use Rattle.names.specs.Words.{mem}
 use Rattle.record.specs.declared.reader.Reading.{Reading}
 use Rattle.record.specs.Arena.{Read}
@@ -109,6 +109,22 @@ module _ (bytes : List ℕ) (r : Reading) (p : Read bytes r) {n k : ℕ} (e : r 
         first-told (scoping-part (contents bytes) seed) (scoping-fits (contents bytes) (told .formed) seed) (wrote-is (sym (scoped-part seed)) w)
         ∙ sym (ap (answered (λ c. scoping-part c seed)) (told .outcome))
 
+    abbrev untied : List Finding
+    untied = findings (for-names 28 i (free (condition-of bytes (i .0))))
+
+    untied-part : untied ≡ closedness-part (contents bytes)
+    unfolding closedness-part closedness-broken root
+    untied-part = ap (λ (m : NodeNo). findings (for-names 28 m (free (condition-of bytes (m .0))))) (sym (last-node i d))
+
+    pub closedness-room : Room untied 0
+    closedness-room = room-is (sym untied-part) (let l = closedness-length (contents bytes) in record { left = omega arith })
+
+    pub closedness-told : {x count : ℕ} {after : List ℕ} → Wrote untied 0 count (x ∷ []) after → answer-of count (getD after 0 0) ≡ closedness bytes
+    unfolding closedness answered
+    closedness-told w =
+        first-told (closedness-part (contents bytes)) (closedness-fits (contents bytes) (told .formed)) (wrote-is (sym untied-part) w)
+        ∙ sym (ap (answered closedness-part) (told .outcome))
+
     demanded-part : demands-of (condition-of bytes (i .0)) ≡ demands-part (contents bytes)
     unfolding demands-of demanded demands-part root
     demanded-part = ap (λ (m : NodeNo). demands-of (condition-of bytes (m .0))) (sym (last-node i d))
@@ -127,10 +143,8 @@ module _ (bytes : List ℕ) (r : Reading) (p : Read bytes r) {n k : ℕ} (e : r 
     written = listed (mem (r .arena .reserved)) i (condition-of bytes (i .0))
 
     list-parts : written ≡ the-list (contents bytes)
-    unfolding listed the-list closedness-part closedness-broken root
-    list-parts =
-        ap₂ {C = List Finding} _++_ (scoped-part none)
-        (ap₂ {C = List Finding} _++_ (ap (λ (m : NodeNo). findings (for-names 28 m (free (condition-of bytes (m .0))))) (sym (last-node i d))) demanded-part)
+    unfolding listed the-list
+    list-parts = ap₂ {C = List Finding} _++_ (scoped-part none) (ap₂ {C = List Finding} _++_ untied-part demanded-part)
 
     pub list-room : Room written 0
     list-room = room-is (sym list-parts) (let l = list-length (contents bytes) (told .formed) in record { left = omega arith })
@@ -157,12 +171,6 @@ module _ (bytes : List ℕ) (r : Reading) (p : Read bytes r) {n k : ℕ} (e : r 
             rw (told .outcome, f)
                 (all-told (the-list (contents bytes)) (let g = length-map (the-list (contents bytes)) pack in omega arith) (wrote-is (sym list-parts) v)),
           )
-
-    pub closedness-told : closedness bytes ≡ first (findings (for-names 28 i (free (condition-of bytes (i .0)))))
-    unfolding closedness answered closedness-part closedness-broken root
-    closedness-told =
-        ap (answered closedness-part) (told .outcome)
-        ∙ ap (λ (m : NodeNo). first (findings (for-names 28 m (free (condition-of bytes (m .0)))))) (last-node i d)
 
     pub arithmetic-told : arithmetic bytes ≡ pick (has-arith (condition-of bytes (i .0))) arith.Yes arith.No
     unfolding arithmetic arithmetic-of root

@@ -70,7 +70,7 @@ pub fn scoping(bytes: &[u8], seed: Names) -> Answer
     first(count, one[0])
 }
 
-// A refusal of the reader; 28 with the root and its least free name; or accepted.
+// A refusal of the reader; the first entry of 28; or accepted.
 pub fn closedness(bytes: &[u8]) -> Answer
     ensures { λ r. ⌜ r ≡ closedness-answer (now (bytes .entry)) ⌝ }
 {
@@ -80,7 +80,9 @@ pub fn closedness(bytes: &[u8]) -> Answer
     let Verdict::Counts { names: _, nodes } = v else {
         return passed_answer(v);
     };
-    check_leaf_closed(bytes, &a.starts, root(nodes))
+    let mut one = [0u32; 1];
+    let open = check_leaf_closed(bytes, &a.starts, root(nodes), &mut one, 0);
+    first(open, one[0])
 }
 
 // A refusal of the reader; the first entry of 30 to 32; or accepted.

@@ -11,8 +11,7 @@ use Rattle.paper.specs.declared.NodeNo.{NodeNo}
 use Rattle.paper.specs.declared.Finding.{Finding}
 use Rattle.paper.specs.Sets.{Set, members, outside, all-below}
 use Rattle.paper.specs.Places.{for-names, findings}
-use Rattle.paper.proofs.SetLaws.{all-get}
-use Rattle.names.proofs.Members.{members-none}
+use Rattle.paper.proofs.SetLaws.{all-get, members-none}
 use Rattle.writes.specs.Written.{Room, Wrote, made, entries-for, entry-for}
 use Rattle.writes.proofs.WriteLaws.{wrote-then, wrote-is}
 
@@ -23,6 +22,9 @@ so-far rule n s x = entries-for rule n (members s x)
 pub all-names : (rule : ℕ) (n : NodeNo) (s : Set) → findings (for-names rule n s) ≡ so-far rule n s 128
 unfolding findings
 all-names rule n s = refl
+
+pub for-same : (rule : ℕ) (n : NodeNo) {s t : Set} → s ≡ t → findings (for-names rule n t) ≡ findings (for-names rule n s)
+for-same rule n e = ap (λ (z : Set). findings (for-names rule n z)) (sym e)
 
 twice : (b : Bool) → not (not b) ≡ b
 twice true = refl

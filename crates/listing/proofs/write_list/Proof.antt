@@ -11,9 +11,8 @@ write-list-spec =
     tie.close
     (tie.spec
     (λ c κs. search needs)
-    (λ c κs. c .before .before .before .pre .0)
-    (λ c κs. (c .before .before .before .before .before .pre .0, room-first _ _ (room-is (listed-are _ _ _ (c .before .before .empty .ensures) (c .before .collect-free .ensures)) (c .before .before .before .before .before .pre .1))))
-    (λ c κs. room-first _ _ (room-rest _ _ (c .before .before .before .check-condition .ensures) (omega (arith, c .before .before .before .check-condition .ensures .total)) (room-is (listed-are _ _ _ (c .before .before .before .before .before .before .empty .ensures) (c .before .before .before .before .before .collect-free .ensures)) (c .before .before .before .before .before .before .before .before .before .pre .1))))
-    (λ c κs. (c .before .before .before .before .before .before .before .before .before .before .before .before .before .pre .0, room-rest _ _ (c .before .before .before .emit .ensures) (omega (arith, c .before .before .before .emit .ensures .total, c .before .before .before .before .before .before .before .check-condition .ensures .total)) (room-rest _ _ (c .before .before .before .before .before .before .before .check-condition .ensures) (omega (arith, c .before .before .before .emit .ensures .total, c .before .before .before .before .before .before .before .check-condition .ensures .total)) (room-is (listed-are _ _ _ (c .before .before .before .before .before .before .before .before .before .before .empty .ensures) (c .before .before .before .before .before .before .before .before .before .collect-free .ensures)) (c .before .before .before .before .before .before .before .before .before .before .before .before .before .pre .1)))))
+    (λ c κs. (c .before .before .before .before .pre .0, room-first _ _ (room-is (listed-are _ _ _ (c .before .empty .ensures)) (c .before .before .before .before .pre .1))))
+    (λ c κs. (c .before .before .before .before .before .before .before .before .pre .0, room-first _ _ (room-rest _ _ (c .before .before .before .check-condition .ensures) (omega (arith, c .before .before .before .check-condition .ensures .total)) (room-is (listed-are _ _ _ (c .before .before .before .before .before .empty .ensures)) (c .before .before .before .before .before .before .before .before .pre .1)))))
+    (λ c κs. (c .before .before .before .before .before .before .before .before .before .before .before .before .pre .0, room-rest _ _ (c .before .before .before .check-leaf-closed .ensures) (omega (arith, c .before .before .before .check-leaf-closed .ensures .total, c .before .before .before .before .before .before .before .check-condition .ensures .total)) (room-rest _ _ (c .before .before .before .before .before .before .before .check-condition .ensures) (omega (arith, c .before .before .before .check-leaf-closed .ensures .total, c .before .before .before .before .before .before .before .check-condition .ensures .total)) (room-is (listed-are _ _ _ (c .before .before .before .before .before .before .before .before .before .empty .ensures)) (c .before .before .before .before .before .before .before .before .before .before .before .before .pre .1)))))
     (λ c. search needs)
-    (λ c. wrote-is (listed-are _ _ _ (c .before .before .before .before .before .before .before .before .before .before .before .before .before .empty .ensures) (c .before .before .before .before .before .before .before .before .before .before .before .before .collect-free .ensures)) (wrote-then (c .before .before .before .before .before .before .before .before .before .before .check-condition .ensures) (wrote-then (c .before .before .before .before .before .before .emit .ensures) (c .before .before .check-demands .ensures)))))
+    (λ c. wrote-is (listed-are _ _ _ (c .before .before .before .before .before .before .before .before .before .before .before .before .empty .ensures)) (wrote-then (c .before .before .before .before .before .before .before .before .before .before .check-condition .ensures) (wrote-then (c .before .before .before .before .before .before .check-leaf-closed .ensures) (c .before .before .check-demands .ensures)))))
