@@ -19,7 +19,7 @@ use Rattle.paper.specs.Sets.{Set, none, only, _∪_, _∖_, outside}
 use Rattle.paper.specs.Tree.{Condition, Binders, Tree, as-term, as-binders, planted}
 use Rattle.paper.specs.Tree.Binders.{no-binder, binder}
 use Rattle.paper.specs.FreeAndRestricted.{named, is-sigil, binder-names, free, restricted}
-use Rattle.paper.specs.Places.{Cell, Broken, for-names, at-cells, gather, at-cell, findings}
+use Rattle.paper.specs.Places.{Cell, for-names, at-cells, gather, at-cell, findings}
 use Rattle.paper.specs.Scoping.{binder-sigil, cell-of, cells}
 use Rattle.trees.specs.Trees.{tree-of, condition-of, term-of, binders-of}
 use Rattle.trees.proofs.Arms.{Arm}
@@ -114,7 +114,8 @@ own-outside rule own a (binder n s y l) h =
 -- ---- whether it is skipped
 
 module _ {bytes starts : List ℕ} {i : ℕ} where
-  pub in-term : {A : Type 0} (f : Rattle.paper.specs.Tree.Term → A) {m : Node} → Arm bytes starts i m → f (term-of bytes i) ≡ f (as-term (planted (tree-of bytes) (node-no i) m))
+  pub in-term : {A : Type 0} (f : Rattle.paper.specs.Tree.Term → A) {m : Node} → Arm bytes starts i m → f (term-of bytes i) ≡ f (as-term (planted (tree-of bytes)
+      (node-no i) m))
   in-term f a = ap (λ (t : Tree). f (as-term t)) (a .tree)
 
   pub skips-sum : {s : Slot} {l b : NodeNo} → Arm bytes starts i (node.Sum s l b) → skips (term-of bytes i) ≡ (is-sigil s || binder-sigil (binders-of bytes (l .0)))

@@ -1,5 +1,4 @@
 -- An aggregate's own entries, and whether it is skipped. Assumes nothing: these are definitions.
-use Prim.Native.Nat.{ℕ}
 use mathlib.Core.Bool.{Bool, false, _||_}
 use mathlib.Core.List.{List, [], _∷_}
 use Rattle.paper.specs.declared.NodeNo.{NodeNo}

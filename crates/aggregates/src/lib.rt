@@ -4,7 +4,6 @@ use free::collect_free;
 use free::slot_name;
 use names::Names;
 use paper::Finding;
-use paper::NameNo;
 use paper::Node;
 use paper::NodeNo;
 use paper::Slot;

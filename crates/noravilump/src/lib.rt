@@ -66,7 +66,8 @@ pub fn scoping(bytes: &[u8], seed: Names) -> Answer
         return passed_answer(v);
     };
     let mut one = [0u32; 1];
-    let count = check_condition(bytes, &a.starts, root(nodes), seed, a.reserved, &mut one, 0);
+    let words = a.reserved;
+    let count = check_condition(bytes, &a.starts, root(nodes), seed, words, &mut one, 0);
     first(count, one[0])
 }
 

@@ -1,8 +1,6 @@
 -- What a search finds in a term, in arguments and in items: the entries of 20 and 21, which no scope and no reserved word has a say in.
 -- Assumes nothing: these are definitions.
-use Prim.Native.Nat.{ℕ}
-use mathlib.Core.List.{List, [], _∷_, _++_}
-use Rattle.paper.specs.declared.NodeNo.{NodeNo}
+use mathlib.Core.List.{List, [], _++_}
 use Rattle.paper.specs.declared.Finding.{Finding}
 use Rattle.paper.specs.Tree.{Term, Arguments, Items, Tree}
 use Rattle.paper.specs.Tree.Term.{Var, Wildcard, Value, Sigil, Array, Arith, Sum, Count, AggregateCall}

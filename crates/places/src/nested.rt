@@ -5,7 +5,6 @@ use paper::NodeNo;
 use paper::Subject;
 use record::access::node_at;
 use writes::put;
-ghost use mathlib.Core.List.{[], _∷_};
 ghost use Rattle.paper.specs.Places.{itself, findings};
 ghost use Rattle.record.specs.Stored.{Has};
 ghost use Rattle.trees.specs.Trees.{tree-of};

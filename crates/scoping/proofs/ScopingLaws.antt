@@ -19,7 +19,7 @@ use Rattle.paper.specs.Tree.Term.{Var, Wildcard, Value, Sigil, Array, Arith, Su
 use Rattle.paper.specs.Tree.Arguments.{no-argument, argument}
 use Rattle.paper.specs.Tree.Items.{no-item, item}
 use Rattle.paper.specs.FreeAndRestricted.{named, binder-names, restricted, holds-sigil}
-use Rattle.paper.specs.Places.{Spot, condition, operand, searched, searched-arguments, searched-items, Place, asked-at, Broken, itself, for-names, gather, findings, found}
+use Rattle.paper.specs.Places.{Spot, condition, operand, searched, searched-arguments, searched-items, asked-at, itself, for-names, gather, findings, found}
 use Rattle.paper.specs.Scoping.{scope-below, scope-broken}
 use Rattle.paper.proofs.Walks.{found-at}
 use Rattle.paper.proofs.Exact.{extent-pos, scope-shrinks}
@@ -122,7 +122,8 @@ module _ (words scope : Set) where
   -- ---- conditions
 
   module _ {bytes starts : List ℕ} {i : ℕ} where
-    pub in-condition : {m : Node} → Arm bytes starts i m → from (condition (condition-of bytes i)) ≡ from (condition (as-condition (planted (tree-of bytes) (node-no i) m)))
+    pub in-condition : {m : Node} → Arm bytes starts i m → from (condition (condition-of bytes i)) ≡ from (condition (as-condition (planted (tree-of bytes) (node-no i)
+        m)))
     in-condition a = ap (λ (t : Tree). from (condition (as-condition t))) (a .tree)
 
     pub scoped-comparison : {o : ℕ} {l r : NodeNo} → Arm bytes starts i (node.Comparison o l r)
@@ -146,7 +147,8 @@ module _ (words scope : Set) where
         ++ (findings (for-names 23 (node-no i) (pick (holds-sigil (condition-of bytes (b .0))) none (named s ∖ restricted (condition-of bytes (b .0)))))
         ++ scoped words (condition (condition-of bytes (b .0))) inner)
     unfolding planted as-condition scope-below scope-broken gather scoped
-    scoped-exists {s = s} {b = b} e a = in-condition a ∙ at _ ∙ then-two reserved loose _ ∙ ap (λ (z : Set). reserved ++ (loose ++ scoped words (condition (condition-of bytes (b .0))) z)) (sym e)
+    scoped-exists {s = s} {b = b} e a = in-condition a ∙ at _ ∙ then-two reserved loose _ ∙ ap (λ (z : Set). reserved ++ (loose ++ scoped words (condition (condition-of
+        bytes (b .0))) z)) (sym e)
       where
         reserved : List Finding
         reserved = findings (for-names 22 (node-no i) (named s ∩ words))
@@ -187,12 +189,14 @@ module _ (words scope : Set) where
   entered-sum : (n : NodeNo) (s : Slot) (l : Binders) (b : Condition) → skips (Sum n s l b) ≡ false
       → from (operand (Sum n s l b)) ≡ gather findings (five-of words (Sum n s l b) scope) ++ scoped words (condition b) (scope ∪ binder-names l)
   unfolding scope-below scope-broken gather scoped skips five-of five
-  entered-sum n s l b e = at (operand (Sum n s l b)) ∙ rw e (then-one (gather findings (five-of words (Sum n s l b) scope)) (scoped words (condition b) (scope ∪ binder-names l)))
+  entered-sum n s l b e = at (operand (Sum n s l b)) ∙ rw e (then-one (gather findings (five-of words (Sum n s l b) scope)) (scoped words (condition b) (scope ∪
+      binder-names l)))
 
   entered-count : (n : NodeNo) (l : Binders) (b : Condition) → skips (Count n l b) ≡ false
       → from (operand (Count n l b)) ≡ gather findings (five-of words (Count n l b) scope) ++ scoped words (condition b) (scope ∪ binder-names l)
   unfolding scope-below scope-broken gather scoped skips five-of five
-  entered-count n l b e = at (operand (Count n l b)) ∙ rw e (then-one (gather findings (five-of words (Count n l b) scope)) (scoped words (condition b) (scope ∪ binder-names l)))
+  entered-count n l b e = at (operand (Count n l b)) ∙ rw e (then-one (gather findings (five-of words (Count n l b) scope)) (scoped words (condition b) (scope ∪
+      binder-names l)))
 
   abbrev entered : Term → Condition → Set → Type 0
   entered t b inner = skips t ≡ false → from (operand t) ≡ gather findings (five-of words t scope) ++ scoped words (condition b) inner
@@ -212,7 +216,8 @@ module _ (words scope : Set) where
 
   nowhere-scoped : (n : NodeNo) (k : ℕ) (m : NodeNo) → from (condition (cond.Predicate n k (no-argument m))) ≡ []
   unfolding scope-below scope-broken gather scoped nested
-  nowhere-scoped n k m = at (condition (cond.Predicate n k (no-argument m))) ∙ append-nil (from (searched-arguments (no-argument m))) ∙ arguments-searched (no-argument m)
+  nowhere-scoped n k m = at (condition (cond.Predicate n k (no-argument m))) ∙ append-nil (from (searched-arguments (no-argument m))) ∙ arguments-searched (no-argument
+      m)
 
   no-scoped : (t : ℕ → Tree) (n : NodeNo) (m : Node) → OneOf unscoped-kinds (tagOf the-type m) → from (condition (as-condition (planted t n m))) ≡ []
   unfolding scope-below scope-broken gather scoped

@@ -1,13 +1,12 @@
 -- The whole buffer after a walk: a buffer of one entry tells the first, and one with room for all has them, and the rest as it was. Assumes nothing.
-use mathlib.Core.Path.{_≡_, refl, sym, ap, _∙_}
+use mathlib.Core.Path.{_≡_, refl, ap, _∙_}
 use mathlib.Core.List.{List, [], _∷_, _++_, map}
 use Prim.Native.Nat.{ℕ, suc, _+_, _≤_}
 use native.Mathlib.Omega.{arith}
 use borrow.Author.Tests.{eq-eqb, ne-eqb}
-use lib.ListN.{length, length-map, getD, take, drop}
+use lib.ListN.{length, length-map, getD, drop}
 use lib.Seq.{sets, sets-eq, set-out}
 use Rattle.paper.specs.declared.Finding.{Finding}
-use Rattle.paper.specs.declared.Answer.{Answer}
 use Rattle.paper.specs.declared.Answer.the-variants.{Unmet}
 use Rattle.paper.specs.TheList.{pack, unpack}
 use Rattle.paper.specs.Questions.{first}

@@ -6,7 +6,7 @@ use paper::NameNo;
 use paper::NodeNo;
 use paper::Subject;
 ghost use mathlib.Core.Path.{_≡_};
-ghost use mathlib.Core.List.{[], _∷_, map};
+ghost use mathlib.Core.List.{[], _∷_};
 ghost use Prim.Native.Nat.{_<_};
 ghost use Rattle.paper.specs.TheList.{about as abouts, name-or-255, pack as packs, unpack as unpacks};
 ghost use Rattle.paper.specs.Places.{for-names, findings};

@@ -43,14 +43,34 @@ cells-arm t c p = arm _ _ _ _ _ (c .before .before .before .pre .1 .0) (c .node-
 abbrev at : ℕ → Set → List Cell → List Finding
 at rule s cs = findings (at-cells rule s cs)
 
+cells-returns : (t : ℕ) → emit-cells-lts.Need-returns (cells-claims t) (cells-at t) emit-cells.Post
+cells-returns t c =
+    wrote-is (ap (at _ _) (next-cell (cells-arm t (c .before .before .before .before .before .before .before .before .before .before .before) (c .before .before .before
+    .before .before .before .before .before .before .node .given .1))) ∙ cells-append _ _ _ _) (wrote-then (c .before .before .before .before .before .before
+    .emit-cell .ensures) (c .before .before .emit-cells .ensures))
+
+cells-returns-2 : (t : ℕ) → emit-cells-lts.Need-returns-2 (cells-claims t) (cells-at t) emit-cells.Post
+cells-returns-2 t c =
+    wrote-is (ap (at _ _) (in-cells cells (cells-arm t (c .before) refl) ∙ no-cell cells _ cells-end _ _ _ (c .match .keys2)) ∙ no-entry-at-no-cell _ _) wrote-none
+
 pub +emit-cells-spec : {M : Type 1} → statement M
 +emit-cells-spec =
     close μ-cells
     (λ t. emit-cells-lts.spec (cells-claims t) (cells-at t) emit-cells.Post
     (λ c κs. c .before .before .pre .1 .0)
     (λ c. search needs)
-    (λ c κs. room-first _ _ (room-is (ap (at _ _) (next-cell (cells-arm t (c .before .before .before .before) (c .before .before .node .given .1))) ∙ cells-append _ _ _ _) (c .before .before .before .before .before .before .before .pre .1 .1)))
-    (λ c κs. let a = cells-arm t (c .before .before .before .before .before .before .before .before) (c .before .before .before .before .before .before .node .given .1) in let d = down (a .children .0) (c .before .before .before .before .before .before .before .before .before .before .before .pre .0) in (d .0, (d .1, room-rest _ _ (c .before .before .before .emit-cell .ensures) (omega (arith, c .before .before .before .emit-cell .ensures .total)) (room-is (ap (at _ _) (next-cell a) ∙ cells-append _ _ _ _) (c .before .before .before .before .before .before .before .before .before .before .before .pre .1 .1)))))
+    (λ c κs. room-first _ _ (room-is (ap (at _ _) (next-cell (cells-arm t (c .before .before .before .before) (c .before .before .node .given .1))) ∙ cells-append _ _ _
+    _) (c .before .before .before .before .before .before .before .pre .1 .1)))
+    (λ c κs. let a = cells-arm t (c .before .before .before .before .before .before .before .before) (c .before .before .before .before .before .before .node .given .1)
+    in let d = down (a .children .0) (c .before .before .before .before .before .before .before .before .before .before .before .pre .0) in (
+      d .0,
+      (
+        d .1,
+        room-rest
+            _ _ (c .before .before .before .emit-cell .ensures) (omega (arith, c .before .before .before .emit-cell .ensures .total)) (room-is (ap (at _ _) (next-cell a) ∙
+            cells-append _ _ _ _) (c .before .before .before .before .before .before .before .before .before .before .before .pre .1 .1)),
+      ),
+    ))
     (λ c. search needs)
-    (λ c. wrote-is (ap (at _ _) (next-cell (cells-arm t (c .before .before .before .before .before .before .before .before .before .before .before) (c .before .before .before .before .before .before .before .before .before .node .given .1))) ∙ cells-append _ _ _ _) (wrote-then (c .before .before .before .before .before .before .emit-cell .ensures) (c .before .before .emit-cells .ensures)))
-    (λ c. wrote-is (ap (at _ _) (in-cells cells (cells-arm t (c .before) refl) ∙ no-cell cells _ cells-end _ _ _ (c .match .keys2)) ∙ no-entry-at-no-cell _ _) wrote-none))
+    (cells-returns t)
+    (cells-returns-2 t))

@@ -42,7 +42,10 @@ pub +has-sigil-binder-spec : {M : Type 1} → statement M
     (λ c κs. c .before .pre .1)
     (λ c. search needs)
     (λ c κs. search needs)
-    (λ c κs. down (binders-arm t (c .before .before .before .before .before) (c .before .before .before .node .given .1) .children .0) (c .before .before .before .before .before .before .before .pre .0))
-    (λ c. or-taken _ (c .if1 .taken) (c .before .is-sigil .ensures) (sigil-cell (binders-arm t (c .before .before .before .before .before) (c .before .before .before .node .given .1))))
-    (λ c. or-else (c .before .if1 .left) (c .before .before .is-sigil .ensures) (c .has-sigil-binder .ensures) (sigil-cell (binders-arm t (c .before .before .before .before .before .before) (c .before .before .before .before .node .given .1))))
+    (λ c κs. down (binders-arm t (c .before .before .before .before .before) (c .before .before .before .node .given .1) .children .0) (c .before .before .before
+    .before .before .before .before .pre .0))
+    (λ c. or-taken _ (c .if1 .taken) (c .before .is-sigil .ensures) (sigil-cell (binders-arm t (c .before .before .before .before .before) (c .before .before .before
+    .node .given .1))))
+    (λ c. or-else (c .before .if1 .left) (c .before .before .is-sigil .ensures) (c .has-sigil-binder .ensures) (sigil-cell (binders-arm t (c .before .before .before
+    .before .before .before) (c .before .before .before .before .node .given .1))))
     (λ c. sym (in-cells binder-sigil (binders-arm t (c .before) refl) ∙ no-cell binder-sigil _ sigil-end _ _ _ (c .match .keys2))))

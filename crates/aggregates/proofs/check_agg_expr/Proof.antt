@@ -24,6 +24,20 @@ nothing : all mathlib.Core.List.[] ≡ mathlib.Core.List.[]
 unfolding gather
 nothing = refl
 
+returns : tie.Need-returns
+returns c =
+    wrote-is (ap all (five-sum _ _ (c .before .before .before .before .slot-name .ensures) (here (c .before .before .before .before .before .before .before .before) (c
+    .before .before .before .before .before .before .node .given .1)))) (c .before .before .check-aggregation .ensures)
+
+returns-2 : tie.Need-returns-2
+returns-2 c =
+    wrote-is (ap all (five-count _ _ (c .before .before .before .before .empty .ensures) (here (c .before .before .before .before .before .before .before .before) (c
+    .before .before .before .before .before .before .node2 .given .1)))) (c .before .before .check-aggregation2 .ensures)
+
+returns-3 : tie.Need-returns-3
+returns-3 c =
+    wrote-is (ap all (five-none _ _ (here (c .before) refl) (c .match .keys3)) ∙ nothing) wrote-none
+
 pub check-agg-expr-spec : {M : Type 1} → statement M
 check-agg-expr-spec =
     tie.close
@@ -31,12 +45,18 @@ check-agg-expr-spec =
     (λ c κs. c .before .before .pre .0)
     (λ c. search needs)
     (λ c κs. slot-tabled (c .before .node .given .0 .0) (here (c .before .before .before) (c .before .node .given .1) .tabled))
-    (λ c κs. let a = here (c .before .before .before .before .before) (c .before .before .before .node .given .1) in ((a .children .0 .has, a .children .1 .0 .has), room-is (ap all (five-sum _ _ (c .before .slot-name .ensures) a)) (c .before .before .before .before .before .before .before .before .pre .1)))
+    (λ c κs. let a = here (c .before .before .before .before .before) (c .before .before .before .node .given .1) in (
+      (a .children .0 .has, a .children .1 .0 .has),
+      room-is (ap all (five-sum _ _ (c .before .slot-name .ensures) a)) (c .before .before .before .before .before .before .before .before .pre .1),
+    ))
     (λ c. search needs)
     (λ c κs. search needs)
-    (λ c κs. let a = here (c .before .before .before .before .before) (c .before .before .before .node2 .given .1) in ((a .children .0 .has, a .children .1 .0 .has), room-is (ap all (five-count _ _ (c .before .empty .ensures) a)) (c .before .before .before .before .before .before .before .before .pre .1)))
+    (λ c κs. let a = here (c .before .before .before .before .before) (c .before .before .before .node2 .given .1) in (
+      (a .children .0 .has, a .children .1 .0 .has),
+      room-is (ap all (five-count _ _ (c .before .empty .ensures) a)) (c .before .before .before .before .before .before .before .before .pre .1),
+    ))
     (λ c. search needs)
-    (λ c. wrote-is (ap all (five-sum _ _ (c .before .before .before .before .slot-name .ensures) (here (c .before .before .before .before .before .before .before .before) (c .before .before .before .before .before .before .node .given .1)))) (c .before .before .check-aggregation .ensures))
+    returns
     (λ c. search needs)
-    (λ c. wrote-is (ap all (five-count _ _ (c .before .before .before .before .empty .ensures) (here (c .before .before .before .before .before .before .before .before) (c .before .before .before .before .before .before .node2 .given .1)))) (c .before .before .check-aggregation2 .ensures))
-    (λ c. wrote-is (ap all (five-none _ _ (here (c .before) refl) (c .match .keys3)) ∙ nothing) wrote-none))
+    returns-2
+    returns-3)

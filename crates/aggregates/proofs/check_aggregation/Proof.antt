@@ -1,11 +1,10 @@
 -- `check_aggregation` writes the five rules of an aggregate in their order.
-use mathlib.Core.Path.{_≡_, refl, sym, ap₂, _∙_}
+use mathlib.Core.Path.{_≡_, refl, ap₂, _∙_}
 use mathlib.Core.List.{List}
 use denote.Ref.{now}
 use native.Mathlib.Omega.{arith}
 use borrow.Author.Needs.{needs}
 use Rattle.paper.specs.declared.NodeNo.{NodeNo}
-use Rattle.paper.specs.declared.Finding.{Finding}
 use Rattle.paper.specs.Sets.{Set, _∪_, _∖_}
 use Rattle.paper.specs.Places.{Cell, gather, findings}
 use Rattle.paper.specs.Scoping.{cells}
@@ -23,7 +22,8 @@ same words n cs p q r s = rw (p, q, r, s)
 -- the five rules over the sets that were made
 five-here : (c : tie.After-minus4) →
     let s = c .before .before .before .before .before .before .before .before .before .before .args in
-    gather findings (five (mem (s .words)) (s .n) (mem (s .summed)) (binders-of (now (s .bytes)) (s .binders .0)) (condition-of (now (s .bytes)) (s .body .0)) (mem (s .scope)))
+    gather findings (five (mem (s .words)) (s .n) (mem (s .summed)) (binders-of (now (s .bytes)) (s .binders .0)) (condition-of (now (s .bytes)) (s .body .0)) (mem (s
+    .scope)))
     ≡ written (mem (s .words)) (s .n) (cells (binders-of (now (s .bytes)) (s .binders .0))) (mem (c .before .before .before .minus .result))
     (mem (c .before .before .minus2 .result)) (mem (c .before .minus3 .result)) (mem (c .minus4 .result))
 five-here c =
@@ -34,6 +34,14 @@ five-here c =
     five-are _ _ _ _ _ _
     ∙ same _ _ _ (c .before .before .before .minus .ensures ∙ ap₂ _∖_ refl own) (c .before .before .minus2 .ensures ∙ ap₂ _∖_ inner known)
     (c .before .minus3 .ensures ∙ ap₂ _∖_ own inner) (c .minus4 .ensures ∙ ap₂ _∖_ own tied)
+
+returns : tie.Need-returns
+returns c =
+    wrote-is (five-here (c .before .before .before .before .before .before .before .before .before .before .before .before .before .before .before .before .before
+    .before .before .before)) (wrote-then (c .before .before .before .before .before .before .before .before .before .before .before .before .before .before .before
+    .before .before .before .emit-cells .ensures) (wrote-then (c .before .before .before .before .before .before .before .before .before .before .before .before
+    .before .before .emit .ensures) (wrote-then (c .before .before .before .before .before .before .before .before .before .before .emit2 .ensures) (wrote-then (c
+    .before .before .before .before .before .before .emit-cells2 .ensures) (c .before .before .emit-cells3 .ensures)))))
 
 pub check-aggregation-spec : {M : Type 1} → statement M
 check-aggregation-spec =
@@ -47,10 +55,100 @@ check-aggregation-spec =
     (λ c κs. search needs)
     (λ c κs. search needs)
     (λ c κs. search needs)
-    (λ c κs. (c .before .before .before .before .before .before .before .before .before .before .before .pre .0 .0, room-first _ _ (room-is (five-here (c .before)) (c .before .before .before .before .before .before .before .before .before .before .before .pre .1))))
-    (λ c κs. room-first _ _ (room-rest _ _ (c .before .before .before .emit-cells .ensures) (omega (arith, c .before .before .before .emit-cells .ensures .total)) (room-is (five-here (c .before .before .before .before .before)) (c .before .before .before .before .before .before .before .before .before .before .before .before .before .before .before .pre .1))))
-    (λ c κs. room-first _ _ (room-rest _ _ (c .before .before .before .emit .ensures) (omega (arith, c .before .before .before .emit .ensures .total, c .before .before .before .before .before .before .before .emit-cells .ensures .total)) (room-rest _ _ (c .before .before .before .before .before .before .before .emit-cells .ensures) (omega (arith, c .before .before .before .emit .ensures .total, c .before .before .before .before .before .before .before .emit-cells .ensures .total)) (room-is (five-here (c .before .before .before .before .before .before .before .before .before)) (c .before .before .before .before .before .before .before .before .before .before .before .before .before .before .before .before .before .before .before .pre .1)))))
-    (λ c κs. (c .before .before .before .before .before .before .before .before .before .before .before .before .before .before .before .before .before .before .before .before .before .before .before .pre .0 .0, room-first _ _ (room-rest _ _ (c .before .before .before .emit2 .ensures) (omega (arith, c .before .before .before .emit2 .ensures .total, c .before .before .before .before .before .before .before .emit .ensures .total, c .before .before .before .before .before .before .before .before .before .before .before .emit-cells .ensures .total)) (room-rest _ _ (c .before .before .before .before .before .before .before .emit .ensures) (omega (arith, c .before .before .before .emit2 .ensures .total, c .before .before .before .before .before .before .before .emit .ensures .total, c .before .before .before .before .before .before .before .before .before .before .before .emit-cells .ensures .total)) (room-rest _ _ (c .before .before .before .before .before .before .before .before .before .before .before .emit-cells .ensures) (omega (arith, c .before .before .before .emit2 .ensures .total, c .before .before .before .before .before .before .before .emit .ensures .total, c .before .before .before .before .before .before .before .before .before .before .before .emit-cells .ensures .total)) (room-is (five-here (c .before .before .before .before .before .before .before .before .before .before .before .before .before)) (c .before .before .before .before .before .before .before .before .before .before .before .before .before .before .before .before .before .before .before .before .before .before .before .pre .1)))))))
-    (λ c κs. (c .before .before .before .before .before .before .before .before .before .before .before .before .before .before .before .before .before .before .before .before .before .before .before .before .before .before .before .pre .0 .0, room-rest _ _ (c .before .before .before .emit-cells2 .ensures) (omega (arith, c .before .before .before .emit-cells2 .ensures .total, c .before .before .before .before .before .before .before .emit2 .ensures .total, c .before .before .before .before .before .before .before .before .before .before .before .emit .ensures .total, c .before .before .before .before .before .before .before .before .before .before .before .before .before .before .before .emit-cells .ensures .total)) (room-rest _ _ (c .before .before .before .before .before .before .before .emit2 .ensures) (omega (arith, c .before .before .before .emit-cells2 .ensures .total, c .before .before .before .before .before .before .before .emit2 .ensures .total, c .before .before .before .before .before .before .before .before .before .before .before .emit .ensures .total, c .before .before .before .before .before .before .before .before .before .before .before .before .before .before .before .emit-cells .ensures .total)) (room-rest _ _ (c .before .before .before .before .before .before .before .before .before .before .before .emit .ensures) (omega (arith, c .before .before .before .emit-cells2 .ensures .total, c .before .before .before .before .before .before .before .emit2 .ensures .total, c .before .before .before .before .before .before .before .before .before .before .before .emit .ensures .total, c .before .before .before .before .before .before .before .before .before .before .before .before .before .before .before .emit-cells .ensures .total)) (room-rest _ _ (c .before .before .before .before .before .before .before .before .before .before .before .before .before .before .before .emit-cells .ensures) (omega (arith, c .before .before .before .emit-cells2 .ensures .total, c .before .before .before .before .before .before .before .emit2 .ensures .total, c .before .before .before .before .before .before .before .before .before .before .before .emit .ensures .total, c .before .before .before .before .before .before .before .before .before .before .before .before .before .before .before .emit-cells .ensures .total)) (room-is (five-here (c .before .before .before .before .before .before .before .before .before .before .before .before .before .before .before .before .before)) (c .before .before .before .before .before .before .before .before .before .before .before .before .before .before .before .before .before .before .before .before .before .before .before .before .before .before .before .pre .1)))))))
+    (λ c κs. (
+      c .before .before .before .before .before .before .before .before .before .before .before .pre .0 .0,
+      room-first _ _ (room-is (five-here (c .before)) (c
+          .before .before .before .before .before .before .before .before .before .before .before .pre .1)),
+    ))
+    (λ c κs. room-first _ _ (room-rest _ _ (c .before .before .before .emit-cells .ensures) (omega (arith, c .before .before .before .emit-cells .ensures .total))
+    (room-is (five-here (c .before .before .before .before .before)) (c .before .before .before .before .before .before .before .before .before .before .before
+    .before .before .before .before .pre .1))))
+    (λ c κs. room-first _ _ (room-rest _ _ (c .before .before .before .emit .ensures) (omega (
+      arith,
+      c .before .before .before .emit .ensures .total,
+      c .before .before
+          .before .before .before .before .before .emit-cells .ensures .total,
+    )) (room-rest _ _ (c .before .before .before .before .before .before .before .emit-cells
+    .ensures) (omega (
+      arith,
+      c .before .before .before .emit .ensures .total,
+      c .before .before .before .before .before .before .before .emit-cells .ensures
+          .total,
+    )) (room-is (five-here (c .before .before .before .before .before .before .before .before .before)) (c .before .before .before .before .before .before
+    .before .before .before .before .before .before .before .before .before .before .before .before .before .pre .1)))))
+    (λ c κs. (
+      c .before .before .before .before .before .before .before .before .before .before .before .before .before .before .before .before .before .before .before
+          .before .before .before .before .pre .0 .0,
+      room-first _ _ (room-rest _ _ (c .before .before .before .emit2 .ensures) (omega (
+        arith,
+        c .before .before .before
+            .emit2 .ensures .total,
+        c .before .before .before .before .before .before .before .emit .ensures .total,
+        c .before .before .before .before .before .before
+            .before .before .before .before .before .emit-cells .ensures .total,
+      )) (room-rest _ _ (c .before .before .before .before .before .before .before .emit .ensures)
+          (omega (
+            arith,
+            c .before .before .before .emit2 .ensures .total,
+            c .before .before .before .before .before .before .before .emit .ensures .total,
+            c .before
+                .before .before .before .before .before .before .before .before .before .before .emit-cells .ensures .total,
+          )) (room-rest _ _ (c .before .before .before .before
+          .before .before .before .before .before .before .before .emit-cells .ensures) (omega (
+            arith,
+            c .before .before .before .emit2 .ensures .total,
+            c .before .before
+                .before .before .before .before .before .emit .ensures .total,
+            c .before .before .before .before .before .before .before .before .before .before .before
+                .emit-cells .ensures .total,
+          )) (room-is (five-here (c .before .before .before .before .before .before .before .before .before .before .before .before .before))
+          (c .before .before .before .before .before .before .before .before .before .before .before .before .before .before .before .before .before .before .before
+          .before .before .before .before .pre .1))))),
+    ))
+    (λ c κs. (
+      c .before .before .before .before .before .before .before .before .before .before .before .before .before .before .before .before .before .before .before
+          .before .before .before .before .before .before .before .before .pre .0 .0,
+      room-rest _ _ (c .before .before .before .emit-cells2 .ensures) (omega (
+        arith,
+        c
+            .before .before .before .emit-cells2 .ensures .total,
+        c .before .before .before .before .before .before .before .emit2 .ensures .total,
+        c .before .before
+            .before .before .before .before .before .before .before .before .before .emit .ensures .total,
+        c .before .before .before .before .before .before .before .before
+            .before .before .before .before .before .before .before .emit-cells .ensures .total,
+      )) (room-rest _ _ (c .before .before .before .before .before .before .before
+          .emit2 .ensures) (omega (
+            arith,
+            c .before .before .before .emit-cells2 .ensures .total,
+            c .before .before .before .before .before .before .before .emit2
+                .ensures .total,
+            c .before .before .before .before .before .before .before .before .before .before .before .emit .ensures .total,
+            c .before .before .before
+                .before .before .before .before .before .before .before .before .before .before .before .before .emit-cells .ensures .total,
+          )) (room-rest _ _ (c .before .before
+          .before .before .before .before .before .before .before .before .before .emit .ensures) (omega (
+            arith,
+            c .before .before .before .emit-cells2 .ensures .total,
+            c
+                .before .before .before .before .before .before .before .emit2 .ensures .total,
+            c .before .before .before .before .before .before .before .before .before
+                .before .before .emit .ensures .total,
+            c .before .before .before .before .before .before .before .before .before .before .before .before .before .before .before
+                .emit-cells .ensures .total,
+          )) (room-rest _ _ (c .before .before .before .before .before .before .before .before .before .before .before .before .before .before
+          .before .emit-cells .ensures) (omega (
+            arith,
+            c .before .before .before .emit-cells2 .ensures .total,
+            c .before .before .before .before .before .before .before
+                .emit2 .ensures .total,
+            c .before .before .before .before .before .before .before .before .before .before .before .emit .ensures .total,
+            c .before .before
+                .before .before .before .before .before .before .before .before .before .before .before .before .before .emit-cells .ensures .total,
+          )) (room-is (five-here (c
+          .before .before .before .before .before .before .before .before .before .before .before .before .before .before .before .before .before)) (c .before .before
+          .before .before .before .before .before .before .before .before .before .before .before .before .before .before .before .before .before .before .before .before
+          .before .before .before .before .before .pre .1))))),
+    ))
     (λ c. search needs)
-    (λ c. wrote-is (five-here (c .before .before .before .before .before .before .before .before .before .before .before .before .before .before .before .before .before .before .before .before)) (wrote-then (c .before .before .before .before .before .before .before .before .before .before .before .before .before .before .before .before .before .before .emit-cells .ensures) (wrote-then (c .before .before .before .before .before .before .before .before .before .before .before .before .before .before .emit .ensures) (wrote-then (c .before .before .before .before .before .before .before .before .before .before .emit2 .ensures) (wrote-then (c .before .before .before .before .before .before .emit-cells2 .ensures) (c .before .before .emit-cells3 .ensures)))))))
+    returns)

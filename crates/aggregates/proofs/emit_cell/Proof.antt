@@ -1,13 +1,12 @@
 -- `emit_cell` writes the entry of a cell whose name is in the set.
-use mathlib.Core.Path.{_≡_, refl, sym, ap, _∙_}
-use mathlib.Core.Bool.{Bool, true, false}
-use mathlib.Core.List.{List, [], _∷_}
+use mathlib.Core.Path.{_≡_, sym, _∙_}
+use mathlib.Core.Bool.{true, false}
+use mathlib.Core.List.{[], _∷_}
 use Prim.Native.Nat.{ℕ}
 use borrow.Author.Needs.{needs}
 use Rattle.paper.specs.declared.NodeNo.{NodeNo}
 use Rattle.paper.specs.declared.NameNo.{NameNo}
 use Rattle.paper.specs.declared.Subject.the-variants.{Name as Named}
-use Rattle.paper.specs.declared.Finding.{Finding}
 use Rattle.paper.specs.declared.Slot.{Slot}
 use Rattle.paper.specs.declared.Slot.the-variants.{Name}
 use Rattle.paper.specs.Sets.{Set}
@@ -28,14 +27,28 @@ has-other-name : (rule : ℕ) (s : Set) (n : NodeNo) (x : NameNo) {slot : Slot} 
 unfolding findings gather at-cell cell-of
 has-other-name rule s n x e h = rw (e, h)
 
+returns : tie.Need-returns
+returns c =
+    wrote-is (has-name _ _ _ _ (c .before .before .before .before .before .before .before .slot .given .1) (sym (c .before .before .before .before .before .member
+    .ensures) ∙ c .before .before .before .before .if1 .taken)) (c .before .before .put .ensures)
+
+returns-2 : tie.Need-returns-2
+returns-2 c =
+    wrote-is (has-other-name _ _ _ _ (c .before .before .before .slot .given .1) (sym (c .before .member .ensures) ∙ c .if1 .left)) wrote-none
+
+returns-3 : tie.Need-returns-3
+returns-3 c =
+    wrote-is (no-cell-entry _ _ _ _ (c .match .keys2)) wrote-none
+
 pub emit-cell-spec : {M : Type 1} → statement M
 emit-cell-spec =
     tie.close
     (tie.spec
     (λ c. search needs)
     (λ c κs. search needs)
-    (λ c κs. room-is (has-name _ _ _ _ (c .before .before .before .before .slot .given .1) (sym (c .before .before .member .ensures) ∙ c .before .if1 .taken)) (c .before .before .before .before .before .before .before .pre))
+    (λ c κs. room-is (has-name _ _ _ _ (c .before .before .before .before .slot .given .1) (sym (c .before .before .member .ensures) ∙ c .before .if1 .taken)) (c
+    .before .before .before .before .before .before .before .pre))
     (λ c. search needs)
-    (λ c. wrote-is (has-name _ _ _ _ (c .before .before .before .before .before .before .before .slot .given .1) (sym (c .before .before .before .before .before .member .ensures) ∙ c .before .before .before .before .if1 .taken)) (c .before .before .put .ensures))
-    (λ c. wrote-is (has-other-name _ _ _ _ (c .before .before .before .slot .given .1) (sym (c .before .member .ensures) ∙ c .if1 .left)) wrote-none)
-    (λ c. wrote-is (no-cell-entry _ _ _ _ (c .match .keys2)) wrote-none))
+    returns
+    returns-2
+    returns-3)

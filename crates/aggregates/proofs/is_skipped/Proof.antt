@@ -24,7 +24,9 @@ is-skipped-spec =
     (λ c κs. here (c .before .before .before .before .before) (c .before .before .before .node .given .1) .children .0 .has)
     (λ c. search needs)
     (λ c κs. here (c .before .before .before) (c .before .node2 .given .1) .children .0 .has)
-    (λ c. or-taken _ (c .if1 .taken) (c .before .is-sigil .ensures) (skips-sum (here (c .before .before .before .before .before) (c .before .before .before .node .given .1))))
-    (λ c. or-else (c .before .if1 .left) (c .before .before .is-sigil .ensures) (c .has-sigil-binder .ensures) (skips-sum (here (c .before .before .before .before .before .before) (c .before .before .before .before .node .given .1))))
+    (λ c. or-taken _ (c .if1 .taken) (c .before .is-sigil .ensures) (skips-sum (here (c .before .before .before .before .before) (c .before .before .before .node .given
+    .1))))
+    (λ c. or-else (c .before .if1 .left) (c .before .before .is-sigil .ensures) (c .has-sigil-binder .ensures) (skips-sum (here (c .before .before .before .before
+    .before .before) (c .before .before .before .before .node .given .1))))
     (λ c. c .has-sigil-binder2 .ensures ∙ sym (skips-count (here (c .before .before .before .before) (c .before .before .node2 .given .1))))
     (λ c. sym (in-term skips (here (c .before) refl) ∙ no-skips _ _ _ (c .match .keys3))))

@@ -54,12 +54,38 @@ abbrev operand-below : ℕ → In 3 descend-nested-chains-kinds.ps
 operand-below t = and 3 descend-nested-chains-kinds.ps (falls 3 descend-nested-chains-kinds.ps _<_ μ-operand t) descend-nested-chains.Pre
 
 abbrev chain-claims : ℕ → check-chain-lts.Claims
-chain-claims t =
-    (node-at-reads.Asked, node-at-reads.Learnt, check-own-demands-reads.Asked, check-own-demands-reads.Learnt, collect-range-restricted-reads.Asked, collect-range-restricted-reads.Learnt, union-reads.Asked, union-reads.Learnt, chain-below t, check-chain.Post, slot-name-reads.Asked, slot-name-reads.Learnt, minus-reads.Asked, minus-reads.Learnt, operand-below t, descend-nested-chains.Post)
+chain-claims t = (
+  node-at-reads.Asked,
+  node-at-reads.Learnt,
+  check-own-demands-reads.Asked,
+  check-own-demands-reads.Learnt,
+  collect-range-restricted-reads.Asked,
+  collect-range-restricted-reads.Learnt,
+  union-reads.Asked,
+  union-reads.Learnt,
+  chain-below t,
+  check-chain.Post,
+  slot-name-reads.Asked,
+  slot-name-reads.Learnt,
+  minus-reads.Asked,
+  minus-reads.Learnt,
+  operand-below t,
+  descend-nested-chains.Post,
+)
 
 abbrev operand-claims : ℕ → descend-nested-chains-lts.Claims
-operand-claims t =
-    (node-at-reads.Asked, node-at-reads.Learnt, operand-below t, descend-nested-chains.Post, binder-names-reads.Asked, binder-names-reads.Learnt, minus-reads.Asked, minus-reads.Learnt, chain-below t, check-chain.Post)
+operand-claims t = (
+  node-at-reads.Asked,
+  node-at-reads.Learnt,
+  operand-below t,
+  descend-nested-chains.Post,
+  binder-names-reads.Asked,
+  binder-names-reads.Learnt,
+  minus-reads.Asked,
+  minus-reads.Learnt,
+  chain-below t,
+  check-chain.Post,
+)
 
 chain-arm : (t : ℕ) (c : check-chain-lts.After-node-at (chain-claims t) (chain-at t) check-chain.Post) {m : Node} → c .node-at .result ≡ m
     → Arm (now (c .before .before .before .args .bytes)) (now (c .before .before .before .args .starts)) (c .before .before .before .args .i .0) m
@@ -75,7 +101,8 @@ chain-room : (t : ℕ) (c : check-chain-lts.After-slice-known2 (chain-claims t) 
     Room (below-it (condition-of (now (s .bytes)) (s .i .0)) (mem (s .tied))) (c .before .before .check-own-demands .result)
 chain-room t c = room-below _ _ _ (c .before .before .check-own-demands .ensures) (c .before .before .before .before .before .before .before .pre .1 .1)
 
-past : (t : ℕ) (c : check-chain-lts.At-match-came (chain-claims t) (chain-at t) check-chain.Post) → Past (c .match .b) (c .before .before .before .before .before .node-at .result)
+past : (t : ℕ) (c : check-chain-lts.At-match-came (chain-claims t) (chain-at t) check-chain.Post) → Past (c .match .b) (c .before .before .before .before .before
+    .node-at .result)
 past t c =
     ⊎-elim (λ w. met₁ Past (λ b. node.Formerly b (w .1 .given .0 .1 .0)) (λ b. formerly) (w .1 .given .1) (w .3))
     (λ w. met₁ Past (λ b. node.Previous b (w .1 .given .0 .1 .0)) (λ b. previous) (w .1 .given .1) (w .3))
@@ -90,48 +117,61 @@ aggregate t c =
 
 and-writes : (t : ℕ) → check-chain-lts.Need-returns (chain-claims t) (chain-at t) check-chain.Post
 and-writes t c =
-    let a = chain-arm t (c .before .before .before .before .before .before .before .before .before .before .before .before .before .before .before .before .before) (c .before .before .before .before .before .before .before .before .before .before .before .node .given .1) in
-    let grown = c .before .before .before .before .before .before .before .before .union .ensures ∙ ap₂ _∪_ refl (c .before .before .before .before .before .before .before .before .before .collect-range-restricted .ensures) in
-    wrote-own-first _ _ _ (c .before .before .before .before .before .before .before .before .before .before .before .before .before .before .before .check-own-demands .ensures)
+    let a = chain-arm t (c .before .before .before .before .before .before .before .before .before .before .before .before .before .before .before .before .before) (c
+    .before .before .before .before .before .before .before .before .before .before .before .node .given .1) in
+    let grown = c .before .before .before .before .before .before .before .before .union .ensures ∙ ap₂ _∪_ refl (c .before .before .before .before .before .before
+    .before .before .before .collect-range-restricted .ensures) in
+    wrote-own-first _ _ _ (c .before .before .before .before .before .before .before .before .before .before .before .before .before .before .before .check-own-demands
+    .ensures)
     (wrote-is (below-and _ a grown) (wrote-then (c .before .before .before .before .before .before .check-chain .ensures) (c .before .before .check-chain2 .ensures)))
 
 or-writes : (t : ℕ) → check-chain-lts.Need-returns-2 (chain-claims t) (chain-at t) check-chain.Post
 or-writes t c =
-    let a = chain-arm t (c .before .before .before .before .before .before .before .before .before .before .before .before .before .before .before) (c .before .before .before .before .before .before .before .before .before .node2 .given .1) in
+    let a = chain-arm t (c .before .before .before .before .before .before .before .before .before .before .before .before .before .before .before) (c .before .before
+    .before .before .before .before .before .before .before .node2 .given .1) in
     wrote-own-first _ _ _ (c .before .before .before .before .before .before .before .before .before .before .before .before .before .check-own-demands .ensures)
     (wrote-is (below-or _ a) (wrote-then (c .before .before .before .before .before .before .check-chain3 .ensures) (c .before .before .check-chain4 .ensures)))
 
 not-writes : (t : ℕ) → check-chain-lts.Need-returns-3 (chain-claims t) (chain-at t) check-chain.Post
 not-writes t c =
-    let a = chain-arm t (c .before .before .before .before .before .before .before .before .before .before .before) (c .before .before .before .before .before .node3 .given .1) in
+    let a = chain-arm t (c .before .before .before .before .before .before .before .before .before .before .before) (c .before .before .before .before .before .node3
+    .given .1) in
     wrote-own-first _ _ _ (c .before .before .before .before .before .before .before .before .before .check-own-demands .ensures)
     (wrote-is (below-not _ a) (c .before .before .check-chain5 .ensures))
 
 refine-writes : (t : ℕ) → check-chain-lts.Need-returns-4 (chain-claims t) (chain-at t) check-chain.Post
 refine-writes t c =
-    let a = chain-arm t (c .before .before .before .before .before .before .before .before .before .before .before) (c .before .before .before .before .before .node4 .given .1) in
+    let a = chain-arm t (c .before .before .before .before .before .before .before .before .before .before .before) (c .before .before .before .before .before .node4
+    .given .1) in
     wrote-own-first _ _ _ (c .before .before .before .before .before .before .before .before .before .check-own-demands .ensures)
     (wrote-is (below-refine _ a) (c .before .before .check-chain6 .ensures))
 
 since-writes : (t : ℕ) → check-chain-lts.Need-returns-5 (chain-claims t) (chain-at t) check-chain.Post
 since-writes t c =
-    let a = chain-arm t (c .before .before .before .before .before .before .before .before .before .before .before .before .before .before .before .before .before) (c .before .before .before .before .before .before .before .before .before .before .before .node7 .given .1) in
-    let grown = c .before .before .before .before .before .before .before .before .union2 .ensures ∙ ap₂ _∪_ refl (c .before .before .before .before .before .before .before .before .before .collect-range-restricted2 .ensures) in
-    wrote-own-first _ _ _ (c .before .before .before .before .before .before .before .before .before .before .before .before .before .before .before .check-own-demands .ensures)
-    (wrote-is (below-since _ a grown) (wrote-then (c .before .before .before .before .before .before .check-chain7 .ensures) (c .before .before .check-chain8 .ensures)))
+    let a = chain-arm t (c .before .before .before .before .before .before .before .before .before .before .before .before .before .before .before .before .before) (c
+    .before .before .before .before .before .before .before .before .before .before .before .node7 .given .1) in
+    let grown = c .before .before .before .before .before .before .before .before .union2 .ensures ∙ ap₂ _∪_ refl (c .before .before .before .before .before .before
+    .before .before .before .collect-range-restricted2 .ensures) in
+    wrote-own-first _ _ _ (c .before .before .before .before .before .before .before .before .before .before .before .before .before .before .before .check-own-demands
+    .ensures)
+    (wrote-is (below-since _ a grown) (wrote-then (c .before .before .before .before .before .before .check-chain7 .ensures) (c .before .before .check-chain8
+    .ensures)))
 
 exists-writes : (t : ℕ) → check-chain-lts.Need-returns-6 (chain-claims t) (chain-at t) check-chain.Post
 exists-writes t c =
-    let a = chain-arm t (c .before .before .before .before .before .before .before .before .before .before .before .before .before) (c .before .before .before .before .before .before .before .node8 .given .1) in
+    let a = chain-arm t (c .before .before .before .before .before .before .before .before .before .before .before .before .before) (c .before .before .before .before
+    .before .before .before .node8 .given .1) in
     let inner = c .before .before .before .before .minus .ensures ∙ ap₂ _∖_ refl (c .before .before .before .before .before .slot-name .ensures) in
     wrote-own-first _ _ _ (c .before .before .before .before .before .before .before .before .before .before .before .check-own-demands .ensures)
     (wrote-is (below-exists _ a inner) (c .before .before .check-chain9 .ensures))
 
 comparison-writes : (t : ℕ) → check-chain-lts.Need-returns-7 (chain-claims t) (chain-at t) check-chain.Post
 comparison-writes t c =
-    let a = chain-arm t (c .before .before .before .before .before .before .before .before .before .before .before .before .before .before .before) (c .before .before .before .before .before .before .before .before .before .node9 .given .1) in
+    let a = chain-arm t (c .before .before .before .before .before .before .before .before .before .before .before .before .before .before .before) (c .before .before
+    .before .before .before .before .before .before .before .node9 .given .1) in
     wrote-own-first _ _ _ (c .before .before .before .before .before .before .before .before .before .before .before .before .before .check-own-demands .ensures)
-    (wrote-is (below-comparison _ a) (wrote-then (c .before .before .before .before .before .before .descend-nested-chains .ensures) (c .before .before .descend-nested-chains2 .ensures)))
+    (wrote-is (below-comparison _ a) (wrote-then (c .before .before .before .before .before .before .descend-nested-chains .ensures) (c .before .before
+    .descend-nested-chains2 .ensures)))
 
 other-writes : (t : ℕ) → check-chain-lts.Need-returns-8 (chain-claims t) (chain-at t) check-chain.Post
 other-writes t c =
@@ -147,8 +187,10 @@ past-writes t c =
 
 arith-writes : (t : ℕ) → descend-nested-chains-lts.Need-returns (operand-claims t) (operand-at t) descend-nested-chains.Post
 arith-writes t c =
-    let a = operand-arm t (c .before .before .before .before .before .before .before .before .before .before .before) (c .before .before .before .before .before .before .before .before .before .node .given .1) in
-    wrote-is (operand-arith _ a) (wrote-then (c .before .before .before .before .before .before .descend-nested-chains .ensures) (c .before .before .descend-nested-chains2 .ensures))
+    let a = operand-arm t (c .before .before .before .before .before .before .before .before .before .before .before) (c .before .before .before .before .before .before
+    .before .before .before .node .given .1) in
+    wrote-is (operand-arith _ a) (wrote-then (c .before .before .before .before .before .before .descend-nested-chains .ensures) (c .before .before
+    .descend-nested-chains2 .ensures))
 
 other-operand-writes : (t : ℕ) → descend-nested-chains-lts.Need-returns-2 (operand-claims t) (operand-at t) descend-nested-chains.Post
 other-operand-writes t c =
@@ -168,32 +210,142 @@ pub +check-chain+descend-nested-chains-spec : {M : Type 1} → statement M
     (λ c κs. c .before .before .pre .1 .0)
     (λ c κs. (c .before .before .before .before .pre .1 .0, room-own _ _ _ (c .before .before .before .before .pre .1 .1)))
     (λ c. search needs)
-    (λ c κs. let a = chain-arm t (c .before .before .before .before .before .before .before) (c .before .node .given .1) in search (a .children .0 .has, a .children .1 .0 .has))
+    (λ c κs. let a = chain-arm t (c .before .before .before .before .before .before .before) (c .before .node .given .1) in search (
+      a .children .0 .has,
+      a .children .1
+          .0 .has,
+    ))
     (λ c κs. search needs)
-    (λ c κs. let a = chain-arm t (c .before .before .before .before .before .before .before .before .before .before) (c .before .before .before .before .node .given .1) in let d = down (a .children .0) (c .before .before .before .before .before .before .before .before .before .before .before .before .before .pre .0) in (d .0, (d .1, room-first _ _ (room-is (below-and _ a refl) (chain-room t (c .before .before .before .before .before .before))))))
-    (λ c κs. let a = chain-arm t (c .before .before .before .before .before .before .before .before .before .before .before .before .before .before) (c .before .before .before .before .before .before .before .before .node .given .1) in let d = down (a .children .1 .0) (c .before .before .before .before .before .before .before .before .before .before .before .before .before .before .before .before .before .pre .0) in (d .0, (d .1, room-rest _ _ (c .before .before .before .check-chain .ensures) (omega (arith, c .before .before .before .check-chain .ensures .total)) (room-is (below-and _ a (c .before .before .before .before .before .union .ensures ∙ ap₂ _∪_ refl (c .before .before .before .before .before .before .collect-range-restricted .ensures))) (chain-room t (c .before .before .before .before .before .before .before .before .before .before))))))
+    (λ c κs. let a = chain-arm t (c .before .before .before .before .before .before .before .before .before .before) (c .before .before .before .before .node .given .1)
+    in let d = down (a .children .0) (c .before .before .before .before .before .before .before .before .before .before .before .before .before .pre .0) in (
+      d .0,
+      (d .1, room-first _ _ (room-is (below-and _ a refl) (chain-room t (c .before .before .before .before .before .before)))),
+    ))
+    (λ c κs. let a = chain-arm t (c .before .before .before .before .before .before .before .before .before .before .before .before .before .before) (c .before .before
+    .before .before .before .before .before .before .node .given .1) in let d = down (a .children .1 .0) (c .before .before .before .before .before .before .before
+    .before .before .before .before .before .before .before .before .before .before .pre .0) in (
+      d .0,
+      (
+        d .1,
+        room-rest _ _ (c .before .before .before .check-chain
+            .ensures) (omega (arith, c .before .before .before .check-chain .ensures .total)) (room-is (below-and _ a (c .before .before .before .before .before .union
+            .ensures ∙ ap₂ _∪_ refl (c .before .before .before .before .before .before .collect-range-restricted .ensures))) (chain-room t (c .before .before .before
+            .before .before .before .before .before .before .before))),
+      ),
+    ))
     (λ c. search needs)
-    (λ c κs. let a = chain-arm t (c .before .before .before .before .before .before .before .before) (c .before .before .node2 .given .1) in let d = down (a .children .0) (c .before .before .before .before .before .before .before .before .before .before .before .pre .0) in (d .0, (d .1, room-first _ _ (room-is (below-or _ a) (chain-room t (c .before .before .before .before))))))
-    (λ c κs. let a = chain-arm t (c .before .before .before .before .before .before .before .before .before .before .before .before) (c .before .before .before .before .before .before .node2 .given .1) in let d = down (a .children .1 .0) (c .before .before .before .before .before .before .before .before .before .before .before .before .before .before .before .pre .0) in (d .0, (d .1, room-rest _ _ (c .before .before .before .check-chain3 .ensures) (omega (arith, c .before .before .before .check-chain3 .ensures .total)) (room-is (below-or _ a) (chain-room t (c .before .before .before .before .before .before .before .before))))))
+    (λ c κs. let a = chain-arm t (c .before .before .before .before .before .before .before .before) (c .before .before .node2 .given .1) in let d = down (a .children
+    .0) (c .before .before .before .before .before .before .before .before .before .before .before .pre .0) in (
+      d .0,
+      (
+        d .1,
+        room-first _ _ (room-is (below-or _ a)
+            (chain-room t (c .before .before .before .before))),
+      ),
+    ))
+    (λ c κs. let a = chain-arm t (c .before .before .before .before .before .before .before .before .before .before .before .before) (c .before .before .before .before
+    .before .before .node2 .given .1) in let d = down (a .children .1 .0) (c .before .before .before .before .before .before .before .before .before .before .before
+    .before .before .before .before .pre .0) in (
+      d .0,
+      (
+        d .1,
+        room-rest _ _ (c .before .before .before .check-chain3 .ensures) (omega (
+          arith,
+          c .before .before
+              .before .check-chain3 .ensures .total,
+        )) (room-is (below-or _ a) (chain-room t (c .before .before .before .before .before .before .before .before))),
+      ),
+    ))
     (λ c. search needs)
-    (λ c κs. let a = chain-arm t (c .before .before .before .before .before .before .before .before) (c .before .before .node3 .given .1) in let d = down (a .children .0) (c .before .before .before .before .before .before .before .before .before .before .before .pre .0) in (d .0, (d .1, room-is (below-not _ a) (chain-room t (c .before .before .before .before)))))
+    (λ c κs. let a = chain-arm t (c .before .before .before .before .before .before .before .before) (c .before .before .node3 .given .1) in let d = down (a .children
+    .0) (c .before .before .before .before .before .before .before .before .before .before .before .pre .0) in (
+      d .0,
+      (
+        d .1,
+        room-is (below-not _ a) (chain-room t
+            (c .before .before .before .before)),
+      ),
+    ))
     (λ c. search needs)
-    (λ c κs. let a = chain-arm t (c .before .before .before .before .before .before .before .before) (c .before .before .node4 .given .1) in let d = down (a .children .0) (c .before .before .before .before .before .before .before .before .before .before .before .pre .0) in (d .0, (d .1, room-is (below-refine _ a) (chain-room t (c .before .before .before .before)))))
+    (λ c κs. let a = chain-arm t (c .before .before .before .before .before .before .before .before) (c .before .before .node4 .given .1) in let d = down (a .children
+    .0) (c .before .before .before .before .before .before .before .before .before .before .before .pre .0) in (
+      d .0,
+      (
+        d .1,
+        room-is (below-refine _ a) (chain-room
+            t (c .before .before .before .before)),
+      ),
+    ))
     (λ c. search needs)
     (λ c. search needs)
     (λ c. search needs)
-    (λ c κs. let a = chain-arm t (c .before .before .before .before .before .before .before) (c .before .node7 .given .1) in search (a .children .0 .has, a .children .1 .0 .has))
+    (λ c κs. let a = chain-arm t (c .before .before .before .before .before .before .before) (c .before .node7 .given .1) in search (
+      a .children .0 .has,
+      a .children .1
+          .0 .has,
+    ))
     (λ c κs. search needs)
-    (λ c κs. let a = chain-arm t (c .before .before .before .before .before .before .before .before .before .before) (c .before .before .before .before .node7 .given .1) in let d = down (a .children .0) (c .before .before .before .before .before .before .before .before .before .before .before .before .before .pre .0) in (d .0, (d .1, room-first _ _ (room-is (below-since _ a (c .before .union2 .ensures ∙ ap₂ _∪_ refl (c .before .before .collect-range-restricted2 .ensures))) (chain-room t (c .before .before .before .before .before .before))))))
-    (λ c κs. let a = chain-arm t (c .before .before .before .before .before .before .before .before .before .before .before .before .before .before) (c .before .before .before .before .before .before .before .before .node7 .given .1) in let d = down (a .children .1 .0) (c .before .before .before .before .before .before .before .before .before .before .before .before .before .before .before .before .before .pre .0) in (d .0, (d .1, room-rest _ _ (c .before .before .before .check-chain7 .ensures) (omega (arith, c .before .before .before .check-chain7 .ensures .total)) (room-is (below-since _ a (c .before .before .before .before .before .union2 .ensures ∙ ap₂ _∪_ refl (c .before .before .before .before .before .before .collect-range-restricted2 .ensures))) (chain-room t (c .before .before .before .before .before .before .before .before .before .before))))))
+    (λ c κs. let a = chain-arm t (c .before .before .before .before .before .before .before .before .before .before) (c .before .before .before .before .node7 .given
+    .1) in let d = down (a .children .0) (c .before .before .before .before .before .before .before .before .before .before .before .before .before .pre .0) in (
+      d
+          .0,
+      (
+        d .1,
+        room-first _ _ (room-is (below-since _ a (c .before .union2 .ensures ∙ ap₂ _∪_ refl (c .before .before .collect-range-restricted2 .ensures)))
+            (chain-room t (c .before .before .before .before .before .before))),
+      ),
+    ))
+    (λ c κs. let a = chain-arm t (c .before .before .before .before .before .before .before .before .before .before .before .before .before .before) (c .before .before
+    .before .before .before .before .before .before .node7 .given .1) in let d = down (a .children .1 .0) (c .before .before .before .before .before .before .before
+    .before .before .before .before .before .before .before .before .before .before .pre .0) in (
+      d .0,
+      (
+        d .1,
+        room-rest _ _ (c .before .before .before .check-chain7
+            .ensures) (omega (arith, c .before .before .before .check-chain7 .ensures .total)) (room-is (below-since _ a (c .before .before .before .before .before .union2
+            .ensures ∙ ap₂ _∪_ refl (c .before .before .before .before .before .before .collect-range-restricted2 .ensures))) (chain-room t (c .before .before .before
+            .before .before .before .before .before .before .before))),
+      ),
+    ))
     (λ c. search needs)
     (λ c κs. slot-tabled (c .before .node8 .given .0 .0) (chain-arm t (c .before .before .before .before .before .before .before) (c .before .node8 .given .1) .tabled))
     (λ c κs. search needs)
-    (λ c κs. let a = chain-arm t (c .before .before .before .before .before .before .before .before .before .before) (c .before .before .before .before .node8 .given .1) in let d = down (a .children .0) (c .before .before .before .before .before .before .before .before .before .before .before .before .before .pre .0) in (d .0, (d .1, room-is (below-exists _ a (c .before .minus .ensures ∙ ap₂ _∖_ refl (c .before .before .slot-name .ensures))) (chain-room t (c .before .before .before .before .before .before)))))
+    (λ c κs. let a = chain-arm t (c .before .before .before .before .before .before .before .before .before .before) (c .before .before .before .before .node8 .given
+    .1) in let d = down (a .children .0) (c .before .before .before .before .before .before .before .before .before .before .before .before .before .pre .0) in (
+      d
+          .0,
+      (
+        d .1,
+        room-is (below-exists _ a (c .before .minus .ensures ∙ ap₂ _∖_ refl (c .before .before .slot-name .ensures))) (chain-room t (c .before .before
+            .before .before .before .before)),
+      ),
+    ))
     (λ c. search needs)
-    (λ c κs. let a = chain-arm t (c .before .before .before .before .before .before .before .before) (c .before .before .node9 .given .1) in let d = down (a .children .0) (c .before .before .before .before .before .before .before .before .before .before .before .pre .0) in (d .0, (d .1, room-first _ _ (room-is (below-comparison _ a) (chain-room t (c .before .before .before .before))))))
-    (λ c κs. let a = chain-arm t (c .before .before .before .before .before .before .before .before .before .before .before .before) (c .before .before .before .before .before .before .node9 .given .1) in let d = down (a .children .1 .0) (c .before .before .before .before .before .before .before .before .before .before .before .before .before .before .before .pre .0) in (d .0, (d .1, room-rest _ _ (c .before .before .before .descend-nested-chains .ensures) (omega (arith, c .before .before .before .descend-nested-chains .ensures .total)) (room-is (below-comparison _ a) (chain-room t (c .before .before .before .before .before .before .before .before))))))
-    (λ c κs. let a = chain-arm t (c .before .before .before .before .before .before) refl in let d = down (of-past (past t (c .before)) a) (c .before .before .before .before .before .before .before .before .before .pre .0) in (d .0, (d .1, room-is (below-past _ (past t (c .before)) a) (chain-room t (c .before .before)))))
+    (λ c κs. let a = chain-arm t (c .before .before .before .before .before .before .before .before) (c .before .before .node9 .given .1) in let d = down (a .children
+    .0) (c .before .before .before .before .before .before .before .before .before .before .before .pre .0) in (
+      d .0,
+      (
+        d .1,
+        room-first _ _ (room-is
+            (below-comparison _ a) (chain-room t (c .before .before .before .before))),
+      ),
+    ))
+    (λ c κs. let a = chain-arm t (c .before .before .before .before .before .before .before .before .before .before .before .before) (c .before .before .before .before
+    .before .before .node9 .given .1) in let d = down (a .children .1 .0) (c .before .before .before .before .before .before .before .before .before .before .before
+    .before .before .before .before .pre .0) in (
+      d .0,
+      (
+        d .1,
+        room-rest _ _ (c .before .before .before .descend-nested-chains .ensures) (omega (
+          arith,
+          c .before
+              .before .before .descend-nested-chains .ensures .total,
+        )) (room-is (below-comparison _ a) (chain-room t (c .before .before .before .before .before .before
+            .before .before))),
+      ),
+    ))
+    (λ c κs. let a = chain-arm t (c .before .before .before .before .before .before) refl in let d = down (of-past (past t (c .before)) a) (c .before .before .before
+    .before .before .before .before .before .before .pre .0) in (d .0, (d .1, room-is (below-past _ (past t (c .before)) a) (chain-room t (c .before .before)))))
     (λ c. search needs)
     (and-writes t)
     (λ c. search needs)
@@ -215,13 +367,37 @@ pub +check-chain+descend-nested-chains-spec : {M : Type 1} → statement M
     (λ t. descend-nested-chains-lts.spec (operand-claims t) (operand-at t) descend-nested-chains.Post
     (λ c κs. c .before .before .pre .1 .0)
     (λ c. search needs)
-    (λ c κs. let a = operand-arm t (c .before .before .before .before) (c .before .before .node .given .1) in let d = down (a .children .0) (c .before .before .before .before .before .before .before .pre .0) in (d .0, (d .1, room-first _ _ (room-is (operand-arith _ a) (c .before .before .before .before .before .before .before .pre .1 .1)))))
-    (λ c κs. let a = operand-arm t (c .before .before .before .before .before .before .before .before) (c .before .before .before .before .before .before .node .given .1) in let d = down (a .children .1 .0) (c .before .before .before .before .before .before .before .before .before .before .before .pre .0) in (d .0, (d .1, room-rest _ _ (c .before .before .before .descend-nested-chains .ensures) (omega (arith, c .before .before .before .descend-nested-chains .ensures .total)) (room-is (operand-arith _ a) (c .before .before .before .before .before .before .before .before .before .before .before .pre .1 .1)))))
+    (λ c κs. let a = operand-arm t (c .before .before .before .before) (c .before .before .node .given .1) in let d = down (a .children .0) (c .before .before .before
+    .before .before .before .before .pre .0) in (
+      d .0,
+      (
+        d .1,
+        room-first _ _ (room-is (operand-arith _ a) (c .before .before .before .before .before .before .before
+            .pre .1 .1)),
+      ),
+    ))
+    (λ c κs. let a = operand-arm t (c .before .before .before .before .before .before .before .before) (c .before .before .before .before .before .before .node .given
+    .1) in let d = down (a .children .1 .0) (c .before .before .before .before .before .before .before .before .before .before .before .pre .0) in (
+      d .0,
+      (
+        d .1,
+        room-rest _ _ (c .before .before .before .descend-nested-chains .ensures) (omega (arith, c .before .before .before .descend-nested-chains .ensures .total))
+            (room-is (operand-arith _ a) (c .before .before .before .before .before .before .before .before .before .before .before .pre .1 .1)),
+      ),
+    ))
     (λ c. search needs)
     (λ c. search needs)
     (λ c κs. of-aggregate (aggregate t (c)) (operand-arm t (c .before) refl) .0 .has)
     (λ c κs. search needs)
-    (λ c κs. let a = operand-arm t (c .before .before .before .before) refl in let d = down (of-aggregate (aggregate t (c .before .before .before)) a .1) (c .before .before .before .before .before .before .before .pre .0) in (d .0, (d .1, room-is (operand-aggregate _ (aggregate t (c .before .before .before)) a (c .before .minus .ensures ∙ ap₂ _∖_ refl (c .before .before .binder-names .ensures))) (c .before .before .before .before .before .before .before .pre .1 .1))))
+    (λ c κs. let a = operand-arm t (c .before .before .before .before) refl in let d = down (of-aggregate (aggregate t (c .before .before .before)) a .1) (c .before
+    .before .before .before .before .before .before .pre .0) in (
+      d .0,
+      (
+        d .1,
+        room-is (operand-aggregate _ (aggregate t (c .before .before .before)) a (c .before
+            .minus .ensures ∙ ap₂ _∖_ refl (c .before .before .binder-names .ensures))) (c .before .before .before .before .before .before .before .pre .1 .1),
+      ),
+    ))
     (λ c. search needs)
     (arith-writes t)
     (other-operand-writes t)

@@ -12,7 +12,8 @@ right-writes : tie.Need-returns-2
 right-writes c = wrote-is (compared-right _ _ _ _ (c .before .before .before .before .enum-told2 .given .1)) (c .before .before .reject-unmet-var2 .ensures)
 
 neither-writes : tie.Need-returns-3
-neither-writes c = wrote-is (compared-neither _ _ _ _ (c .before .before .before .before .union .ensures) (c .before .before .before .before .before .enum-told3 .given .1)) (c .before .before .reject-unmet-var3 .ensures)
+neither-writes c = wrote-is (compared-neither _ _ _ _ (c .before .before .before .before .union .ensures) (c .before .before .before .before .before .enum-told3 .given
+    .1)) (c .before .before .reject-unmet-var3 .ensures)
 
 pub check-comparison-demands-spec : {M : Type 1} → statement M
 check-comparison-demands-spec =

@@ -16,8 +16,10 @@ here c p = arm _ _ _ _ _ (c .before .before .before .pre .0) (c .node-at .ensure
 
 comparison-writes : tie.Need-returns
 comparison-writes c =
-    let a = here (c .before .before .before .before .before .before .before .before .before .before) (c .before .before .before .before .before .before .before .before .node .given .1) in
-    wrote-is (owed-comparison _ a (c .before .before .before .before .before .before .eq-restricted-var .ensures) (c .before .before .before .before .before .collect-term-var .ensures) (c .before .before .before .before .collect-term-var2 .ensures))
+    let a = here (c .before .before .before .before .before .before .before .before .before .before) (c .before .before .before .before .before .before .before .before
+    .node .given .1) in
+    wrote-is (owed-comparison _ a (c .before .before .before .before .before .before .eq-restricted-var .ensures) (c .before .before .before .before .before
+    .collect-term-var .ensures) (c .before .before .before .before .collect-term-var2 .ensures))
     (c .before .before .check-comparison-demands .ensures)
 
 not-writes : tie.Need-returns-2
@@ -27,7 +29,8 @@ not-writes c =
 
 since-writes : tie.Need-returns-3
 since-writes c =
-    let a = here (c .before .before .before .before .before .before .before .before .before .before) (c .before .before .before .before .before .before .before .before .node3 .given .1) in
+    let a = here (c .before .before .before .before .before .before .before .before .before .before) (c .before .before .before .before .before .before .before .before
+    .node3 .given .1) in
     let known = c .before .before .before .before .union .ensures ∙ ap₂ _∪_ refl (c .before .before .before .before .before .collect-range-restricted .ensures) in
     wrote-is (owed-since _ a (c .before .before .before .before .before .before .collect-free2 .ensures) known) (c .before .before .reject-unmet-var2 .ensures)
 
@@ -42,16 +45,25 @@ check-conjunct-demands-spec =
     (λ c. search needs)
     (λ c κs. let a = here (c .before .before .before) (c .before .node .given .1) in (a .children .0 .has, a .children .1 .0 .has))
     (λ c κs. let a = here (c .before .before .before .before) (c .before .before .node .given .1) in search (a .children .0 .has, a .children .1 .0 .has))
-    (λ c κs. let a = here (c .before .before .before .before .before) (c .before .before .before .node .given .1) in search (a .children .0 .has, a .children .1 .0 .has))
-    (λ c κs. room-is (owed-comparison _ (here (c .before .before .before .before .before .before .before) (c .before .before .before .before .before .node .given .1)) (c .before .before .before .eq-restricted-var .ensures) (c .before .before .collect-term-var .ensures) (c .before .collect-term-var2 .ensures)) (c .before .before .before .before .before .before .before .before .before .before .pre .1))
+    (λ c κs. let a = here (c .before .before .before .before .before) (c .before .before .before .node .given .1) in search (
+      a .children .0 .has,
+      a .children .1 .0
+          .has,
+    ))
+    (λ c κs. room-is (owed-comparison _ (here (c .before .before .before .before .before .before .before) (c .before .before .before .before .before .node .given .1))
+    (c .before .before .before .eq-restricted-var .ensures) (c .before .before .collect-term-var .ensures) (c .before .collect-term-var2 .ensures)) (c .before
+    .before .before .before .before .before .before .before .before .before .pre .1))
     (λ c. search needs)
     (λ c κs. here (c .before .before .before) (c .before .node2 .given .1) .children .0 .has)
-    (λ c κs. room-is (owed-not _ (here (c .before .before .before .before .before) (c .before .before .before .node2 .given .1)) (c .before .collect-free .ensures)) (c .before .before .before .before .before .before .before .before .pre .1))
+    (λ c κs. room-is (owed-not _ (here (c .before .before .before .before .before) (c .before .before .before .node2 .given .1)) (c .before .collect-free .ensures)) (c
+    .before .before .before .before .before .before .before .before .pre .1))
     (λ c. search needs)
     (λ c κs. let a = here (c .before .before .before) (c .before .node3 .given .1) in search (a .children .0 .has, a .children .1 .0 .has))
     (λ c κs. let a = here (c .before .before .before .before) (c .before .before .node3 .given .1) in search (a .children .0 .has, a .children .1 .0 .has))
     (λ c κs. search needs)
-    (λ c κs. room-is (owed-since _ (here (c .before .before .before .before .before .before .before) (c .before .before .before .before .before .node3 .given .1)) (c .before .before .before .collect-free2 .ensures) (c .before .union .ensures ∙ ap₂ _∪_ refl (c .before .before .collect-range-restricted .ensures))) (c .before .before .before .before .before .before .before .before .before .before .pre .1))
+    (λ c κs. room-is (owed-since _ (here (c .before .before .before .before .before .before .before) (c .before .before .before .before .before .node3 .given .1)) (c
+    .before .before .before .collect-free2 .ensures) (c .before .union .ensures ∙ ap₂ _∪_ refl (c .before .before .collect-range-restricted .ensures))) (c .before
+    .before .before .before .before .before .before .before .before .before .pre .1))
     (λ c. search needs)
     comparison-writes
     (λ c. search needs)

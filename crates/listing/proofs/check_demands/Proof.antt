@@ -6,13 +6,24 @@ use Rattle.listing.proofs.ListingLaws.{no-demands, demands-are}
 use Rattle.listing.proofs.check_demands.Statement.{statement}
 use Rattle.listing.proofs.check_demands.Tie as tie
 
+returns : tie.Need-returns
+returns c = wrote-is (no-demands _ (sym (c .before .body-has-sigil .ensures) ∙ c .if1 .taken)) wrote-none
+
+returns-2 : tie.Need-returns-2
+returns-2 c =
+    let asked = c .before .before .before .before in
+    wrote-is (demands-are _ (asked .empty .ensures) (sym (asked .before .before .body-has-sigil .ensures) ∙ asked .before .if1 .left))
+    (c .before .before .check-chain .ensures)
+
+check-chain-requires : tie.Need-check-chain-requires
+check-chain-requires c κs =
+    let asked = c .before in (
+      asked .before .before .before .before .before .pre .0,
+      room-is (demands-are _ (asked .empty .ensures) (sym (asked .before .before .body-has-sigil .ensures) ∙ asked .before .if1 .left))
+          (asked .before .before .before .before .before .pre .1),
+    )
+
 pub check-demands-spec : {M : Type 1} → statement M
 check-demands-spec =
     tie.close
-    (tie.spec
-    (λ c κs. c .before .before .pre .0)
-    (λ c. wrote-is (no-demands _ (sym (c .before .body-has-sigil .ensures) ∙ c .if1 .taken)) wrote-none)
-    (λ c κs. search needs)
-    (λ c κs. (c .before .before .before .before .before .before .pre .0, room-is (demands-are _ (c .before .empty .ensures) (sym (c .before .before .before .body-has-sigil .ensures) ∙ c .before .before .if1 .left)) (c .before .before .before .before .before .before .pre .1)))
-    (λ c. search needs)
-    (λ c. wrote-is (demands-are _ (c .before .before .before .before .empty .ensures) (sym (c .before .before .before .before .before .before .body-has-sigil .ensures) ∙ c .before .before .before .before .before .if1 .left)) (c .before .before .check-chain .ensures)))
+    (tie.spec (λ c κs. c .before .before .pre .0) returns (λ c κs. search needs) check-chain-requires (λ c. search needs) returns-2)

@@ -39,4 +39,5 @@ returns-3 c =
 pub arithmetic-spec : {M : Type 1} → statement M
 arithmetic-spec =
     tie.close
-    (tie.spec (λ c κs. search needs) (λ c. search needs) (λ c. search needs) (λ c κs. search needs) returns root-requires condition-has-arith-requires returns-2 returns-3)
+    (tie.spec (λ c κs. search needs) (λ c. search needs) (λ c. search needs) (λ c κs. search needs) returns root-requires condition-has-arith-requires returns-2
+    returns-3)

@@ -12,6 +12,12 @@ returns c =
     let refusal = c .before .enum-told .given .1 in
     c .passed-answer .ensures ∙ ap answer-passed refusal ∙ sym (closedness-refused _ _ (c .before .before .before .before .read .ensures) refusal)
 
+returns-2 : tie.Need-returns-2
+returns-2 c =
+    c .first .ensures ∙ closedness-told _ _ (c .before .before .before .before .before .before .before .before .before .before .before .read .ensures) (c .before
+    .before .before .before .before .before .before .before .v .given .1) _ (c .before .before .before .before .root .ensures) (c .before .before .check-leaf-closed
+    .ensures)
+
 pub closedness-spec : {M : Type 1} → statement M
 closedness-spec =
     tie.close
@@ -23,7 +29,12 @@ closedness-spec =
     returns
     (λ c κs. some-root _ _ (c .before .before .before .before .before .before .read .ensures) (c .before .before .before .v .given .1))
     (λ c. search needs)
-    (λ c κs. (has-root _ _ (c .before .before .before .before .before .before .before .before .read .ensures) (c .before .before .before .before .before .v .given .1) _ (c .before .root .ensures), closedness-room _ _ (c .before .before .before .before .before .before .before .before .read .ensures) (c .before .before .before .before .before .v .given .1) _ (c .before .root .ensures)))
+    (λ c κs. (
+      has-root _ _ (c .before .before .before .before .before .before .before .before .read .ensures) (c .before .before .before .before .before .v .given .1) _
+          (c .before .root .ensures),
+      closedness-room _ _ (c .before .before .before .before .before .before .before .before .read .ensures) (c .before .before .before
+          .before .before .v .given .1) _ (c .before .root .ensures),
+    ))
     (λ c. search needs)
     (λ c κs. search needs)
-    (λ c. c .first .ensures ∙ closedness-told _ _ (c .before .before .before .before .before .before .before .before .before .before .before .read .ensures) (c .before .before .before .before .before .before .before .before .v .given .1) _ (c .before .before .before .before .root .ensures) (c .before .before .check-leaf-closed .ensures)))
+    returns-2)

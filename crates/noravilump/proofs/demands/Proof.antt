@@ -12,6 +12,11 @@ returns c =
     let refusal = c .before .enum-told .given .1 in
     c .passed-answer .ensures ∙ ap answer-passed refusal ∙ sym (demands-refused _ _ (c .before .before .before .before .read .ensures) refusal)
 
+returns-2 : tie.Need-returns-2
+returns-2 c =
+    c .first .ensures ∙ demands-told _ _ (c .before .before .before .before .before .before .before .before .before .before .before .read .ensures) (c .before .before
+    .before .before .before .before .before .before .v .given .1) _ (c .before .before .before .before .root .ensures) (c .before .before .check-demands .ensures)
+
 pub demands-spec : {M : Type 1} → statement M
 demands-spec =
     tie.close
@@ -23,7 +28,12 @@ demands-spec =
     returns
     (λ c κs. some-root _ _ (c .before .before .before .before .before .before .read .ensures) (c .before .before .before .v .given .1))
     (λ c. search needs)
-    (λ c κs. (has-root _ _ (c .before .before .before .before .before .before .before .before .read .ensures) (c .before .before .before .before .before .v .given .1) _ (c .before .root .ensures), demands-room _ _ (c .before .before .before .before .before .before .before .before .read .ensures) (c .before .before .before .before .before .v .given .1) _ (c .before .root .ensures)))
+    (λ c κs. (
+      has-root _ _ (c .before .before .before .before .before .before .before .before .read .ensures) (c .before .before .before .before .before .v .given .1) _
+          (c .before .root .ensures),
+      demands-room _ _ (c .before .before .before .before .before .before .before .before .read .ensures) (c .before .before .before
+          .before .before .v .given .1) _ (c .before .root .ensures),
+    ))
     (λ c. search needs)
     (λ c κs. search needs)
-    (λ c. c .first .ensures ∙ demands-told _ _ (c .before .before .before .before .before .before .before .before .before .before .before .read .ensures) (c .before .before .before .before .before .before .before .before .v .given .1) _ (c .before .before .before .before .root .ensures) (c .before .before .check-demands .ensures)))
+    returns-2)

@@ -1,7 +1,6 @@
 -- `list` answers as the definitions do, and leaves in the buffer what they say, for all bytes and every buffer.
-use mathlib.Core.Path.{_≡_, sym, ap, _∙_}
+use mathlib.Core.Path.{sym, ap, _∙_}
 use borrow.Author.Needs.{needs}
-use Rattle.writes.proofs.WriteLaws.{wrote-length}
 use Rattle.noravilump.specs.Passed.{listing-passed}
 use Rattle.noravilump.proofs.Asked.{list-refused, some-root, has-root, list-room, list-without-room, list-with-room}
 use Rattle.noravilump.proofs.list.Statement.{statement}
@@ -14,6 +13,20 @@ returns c =
     let l = list-refused _ _ (c .before .before .before .before .read .ensures) refusal _ in
     (c .passed-listing .ensures ∙ ap listing-passed refusal ∙ sym (l .0), sym (l .1))
 
+returns-2 : tie.Need-returns-2
+returns-2 c =
+    let l = list-without-room _ _ (c .before .before .before .before .before .before .before .before .before .before .before .before .read .ensures) (c .before .before
+    .before .before .before .before .before .before .before .v .given .1) _ (c .before .before .before .before .before .before .before .root .ensures) (c .before
+    .before .write-list .ensures) _ (c .if1 .taken) in (sym (l .0), sym (l .1))
+
+returns-3 : tie.Need-returns-3
+returns-3 c =
+    list-with-room _ _ (c .before .before .before .before .before .before .before .before .before .before .before .before .before .before .before .before .before
+    .before .before .read .ensures) (c .before .before .before .before .before .before .before .before .before .before .before .before .before .before .before
+    .before .v .given .1) _ (c .before .before .before .before .before .before .before .before .before .before .before .before .before .before .root .ensures) (c
+    .before .before .before .before .before .before .before .before .before .write-list .ensures) _ (c .before .before .before .before .before .before .before .if1
+    .left) (c .before .before .write-list2 .ensures)
+
 pub list-spec : {M : Type 1} → statement M
 list-spec =
     tie.close
@@ -25,8 +38,21 @@ list-spec =
     returns
     (λ c κs. some-root _ _ (c .before .before .before .before .read .ensures) (c .before .v .given .1))
     (λ c. search needs)
-    (λ c κs. (has-root _ _ (c .before .before .before .before .before .before .before .before .before .read .ensures) (c .before .before .before .before .before .before .v .given .1) _ (c .before .before .before .before .root .ensures), list-room _ _ (c .before .before .before .before .before .before .before .before .before .read .ensures) (c .before .before .before .before .before .before .v .given .1) _ (c .before .before .before .before .root .ensures)))
-    (λ c. let l = list-without-room _ _ (c .before .before .before .before .before .before .before .before .before .before .before .before .read .ensures) (c .before .before .before .before .before .before .before .before .before .v .given .1) _ (c .before .before .before .before .before .before .before .root .ensures) (c .before .before .write-list .ensures) _ (c .if1 .taken) in (sym (l .0), sym (l .1)))
-    (λ c κs. (has-root _ _ (c .before .before .before .before .before .before .before .before .before .before .before .before .before .before .before .before .read .ensures) (c .before .before .before .before .before .before .before .before .before .before .before .before .before .v .given .1) _ (c .before .before .before .before .before .before .before .before .before .before .before .root .ensures), list-room _ _ (c .before .before .before .before .before .before .before .before .before .before .before .before .before .before .before .before .read .ensures) (c .before .before .before .before .before .before .before .before .before .before .before .before .before .v .given .1) _ (c .before .before .before .before .before .before .before .before .before .before .before .root .ensures)))
+    (λ c κs. (
+      has-root _ _ (c .before .before .before .before .before .before .before .before .before .read .ensures) (c .before .before .before .before .before .before
+          .v .given .1) _ (c .before .before .before .before .root .ensures),
+      list-room _ _ (c .before .before .before .before .before .before .before .before .before
+          .read .ensures) (c .before .before .before .before .before .before .v .given .1) _ (c .before .before .before .before .root .ensures),
+    ))
+    returns-2
+    (λ c κs. (
+      has-root _ _ (c .before .before .before .before .before .before .before .before .before .before .before .before .before .before .before .before .read
+          .ensures) (c .before .before .before .before .before .before .before .before .before .before .before .before .before .v .given .1) _ (c .before .before .before
+          .before .before .before .before .before .before .before .before .root .ensures),
+      list-room _ _ (c .before .before .before .before .before .before .before
+          .before .before .before .before .before .before .before .before .before .read .ensures) (c .before .before .before .before .before .before .before .before
+          .before .before .before .before .before .v .given .1) _ (c .before .before .before .before .before .before .before .before .before .before .before .root
+          .ensures),
+    ))
     (λ c. search needs)
-    (λ c. list-with-room _ _ (c .before .before .before .before .before .before .before .before .before .before .before .before .before .before .before .before .before .before .before .read .ensures) (c .before .before .before .before .before .before .before .before .before .before .before .before .before .before .before .before .v .given .1) _ (c .before .before .before .before .before .before .before .before .before .before .before .before .before .before .root .ensures) (c .before .before .before .before .before .before .before .before .before .write-list .ensures) _ (c .before .before .before .before .before .before .before .if1 .left) (c .before .before .write-list2 .ensures)))
+    returns-3)

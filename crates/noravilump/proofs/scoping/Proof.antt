@@ -12,6 +12,12 @@ returns c =
     let refusal = c .before .enum-told .given .1 in
     c .passed-answer .ensures ∙ ap answer-passed refusal ∙ sym (scoping-refused _ _ (c .before .before .before .before .read .ensures) refusal _)
 
+returns-2 : tie.Need-returns-2
+returns-2 c =
+    c .first .ensures ∙ scoping-told _ _ (c .before .before .before .before .before .before .before .before .before .before .before .before .read .ensures) (c .before
+    .before .before .before .before .before .before .before .before .v .given .1) _ (c .before .before .before .before .root .ensures) _ (c .before .before
+    .check-condition .ensures)
+
 pub scoping-spec : {M : Type 1} → statement M
 scoping-spec =
     tie.close
@@ -21,9 +27,14 @@ scoping-spec =
     (λ c. search needs)
     (λ c κs. search needs)
     returns
-    (λ c κs. some-root _ _ (c .before .before .before .before .before .before .read .ensures) (c .before .before .before .v .given .1))
+    (λ c κs. some-root _ _ (c .before .before .before .before .before .before .before .read .ensures) (c .before .before .before .before .v .given .1))
     (λ c. search needs)
-    (λ c κs. (has-root _ _ (c .before .before .before .before .before .before .before .before .before .read .ensures) (c .before .before .before .before .before .before .v .given .1) _ (c .before .before .root .ensures), scoping-room _ _ (c .before .before .before .before .before .before .before .before .before .read .ensures) (c .before .before .before .before .before .before .v .given .1) _ (c .before .before .root .ensures) _))
+    (λ c κs. (
+      has-root _ _ (c .before .before .before .before .before .before .before .before .before .read .ensures) (c .before .before .before .before .before .before
+          .v .given .1) _ (c .before .root .ensures),
+      scoping-room _ _ (c .before .before .before .before .before .before .before .before .before .read .ensures) (c
+          .before .before .before .before .before .before .v .given .1) _ (c .before .root .ensures) _,
+    ))
     (λ c. search needs)
     (λ c κs. search needs)
-    (λ c. c .first .ensures ∙ scoping-told _ _ (c .before .before .before .before .before .before .before .before .before .before .before .before .read .ensures) (c .before .before .before .before .before .before .before .before .before .v .given .1) _ (c .before .before .before .before .before .root .ensures) _ (c .before .before .check-condition .ensures)))
+    returns-2)

@@ -26,5 +26,6 @@ returns-3 c = c .told3 .ensures ∙ sym (ap in-numbers (sym (c .before .before .
 pub probe-arithmetic-spec : {M : Type 1} → statement M
 probe-arithmetic-spec =
     tie.close
-    (tie.spec (λ c κs. search needs) (λ c. search needs) (λ c κs. search needs) (λ c. search needs) (λ c κs. search needs) (λ c. search needs) (λ c κs. search needs) returns
+    (tie.spec (λ c κs. search needs) (λ c. search needs) (λ c κs. search needs) (λ c. search needs) (λ c κs. search needs) (λ c. search needs) (λ c κs. search needs)
+    returns
     returns-2 returns-3)

@@ -14,4 +14,8 @@ probe-list-spec =
     (λ c κs. search needs)
     (λ c κs. search needs)
     (λ c. search needs)
-    (λ c. (c .listed .ensures ∙ ap (λ (l : Listing). asked (listing-numbers l)) (c .before .before .before .list .ensures .0), c .before .before .before .list .ensures .1)))
+    (λ c. (
+      c .listed .ensures ∙ ap (λ (l : Listing). asked (listing-numbers l)) (c .before .before .before .list .ensures .0),
+      c .before .before .before .list .ensures
+          .1,
+    )))

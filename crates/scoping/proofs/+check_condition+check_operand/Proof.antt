@@ -57,12 +57,44 @@ abbrev operand-below : ℕ → In 3 check-operand-kinds.ps
 operand-below t = and 3 check-operand-kinds.ps (falls 3 check-operand-kinds.ps _<_ μ-operand t) check-operand.Pre
 
 abbrev condition-claims : ℕ → check-condition-lts.Claims
-condition-claims t =
-    (node-at-reads.Asked, node-at-reads.Learnt, reject-reserved-binder-reads.Asked, reject-reserved-binder-reads.Learnt, check-exists-safe-reads.Asked, check-exists-safe-reads.Learnt, slot-name-reads.Asked, slot-name-reads.Learnt, union-reads.Asked, union-reads.Learnt, condition-below t, check-condition.Post, operand-below t, check-operand.Post, reject-nested-agg-reads.Asked, reject-nested-agg-reads.Learnt)
+condition-claims t = (
+  node-at-reads.Asked,
+  node-at-reads.Learnt,
+  reject-reserved-binder-reads.Asked,
+  reject-reserved-binder-reads.Learnt,
+  check-exists-safe-reads.Asked,
+  check-exists-safe-reads.Learnt,
+  slot-name-reads.Asked,
+  slot-name-reads.Learnt,
+  union-reads.Asked,
+  union-reads.Learnt,
+  condition-below t,
+  check-condition.Post,
+  operand-below t,
+  check-operand.Post,
+  reject-nested-agg-reads.Asked,
+  reject-nested-agg-reads.Learnt,
+)
 
 abbrev operand-claims : ℕ → check-operand-lts.Claims
-operand-claims t =
-    (node-at-reads.Asked, node-at-reads.Learnt, operand-below t, check-operand.Post, reject-nested-agg-reads.Asked, reject-nested-agg-reads.Learnt, is-skipped-reads.Asked, is-skipped-reads.Learnt, check-agg-expr-reads.Asked, check-agg-expr-reads.Learnt, binder-names-reads.Asked, binder-names-reads.Learnt, union-reads.Asked, union-reads.Learnt, condition-below t, check-condition.Post)
+operand-claims t = (
+  node-at-reads.Asked,
+  node-at-reads.Learnt,
+  operand-below t,
+  check-operand.Post,
+  reject-nested-agg-reads.Asked,
+  reject-nested-agg-reads.Learnt,
+  is-skipped-reads.Asked,
+  is-skipped-reads.Learnt,
+  check-agg-expr-reads.Asked,
+  check-agg-expr-reads.Learnt,
+  binder-names-reads.Asked,
+  binder-names-reads.Learnt,
+  union-reads.Asked,
+  union-reads.Learnt,
+  condition-below t,
+  check-condition.Post,
+)
 
 condition-arm : (t : ℕ) (c : check-condition-lts.After-node-at (condition-claims t) (condition-at t) check-condition.Post) {m : Node} → c .node-at .result ≡ m
     → Arm (now (c .before .before .before .args .bytes)) (now (c .before .before .before .args .starts)) (c .before .before .before .args .i .0) m
@@ -80,7 +112,8 @@ passes t c =
     (λ w. met₁ Plain (λ b. node.Refine b (w .1 .given .0 .1 .0)) (λ b. refine) (w .1 .given .1) (w .3))))
     (c .match .came)
 
-joins : (t : ℕ) (c : check-condition-lts.At-match-came-2 (condition-claims t) (condition-at t) check-condition.Post) → Two (c .match .l) (c .match .r) (c .before .node-at .result)
+joins : (t : ℕ) (c : check-condition-lts.At-match-came-2 (condition-claims t) (condition-at t) check-condition.Post) → Two (c .match .l) (c .match .r) (c .before
+    .node-at .result)
 joins t c =
     ⊎-elim (λ w. met₂ Two node.And (λ l r. two-and) (w .1 .given .1) (w .3) (w .4))
     (⊎-elim (λ w. met₂ Two node.Or (λ l r. or) (w .1 .given .1) (w .3) (w .4))
@@ -93,6 +126,72 @@ gathers t c =
     ⊎-elim (λ w. met₂ Aggregate (node.Sum (w .1 .given .0 .0)) (λ l b. sum) (w .1 .given .1) (w .3) (w .4))
     (λ w. met₂ Aggregate node.Count (λ l b. count) (w .1 .given .1) (w .3) (w .4))
     (c .match .came)
+
+condition-returns : (t : ℕ) → check-condition-lts.Need-returns (condition-claims t) (condition-at t) check-condition.Post
+condition-returns t c =
+    wrote-is (scoped-exists _ _ (c .before .before .before .before .union .ensures ∙ ap₂ _∪_ refl (c .before .before .before .before .before .slot-name .ensures))
+    (condition-arm t (c .before .before .before .before .before .before .before .before .before .before .before .before .before .before .before .before .before) (c
+    .before .before .before .before .before .before .before .before .before .before .before .before .before .before .before .node8 .given .1))) (wrote-then (c
+    .before .before .before .before .before .before .before .before .before .before .before .before .reject-reserved-binder .ensures) (wrote-then (c .before .before
+    .before .before .before .before .before .before .check-exists-safe .ensures) (c .before .before .check-condition .ensures)))
+
+condition-returns-2 : (t : ℕ) → check-condition-lts.Need-returns-2 (condition-claims t) (condition-at t) check-condition.Post
+condition-returns-2 t c =
+    wrote-is (scoped-comparison _ _ (condition-arm t (c .before .before .before .before .before .before .before .before .before .before .before) (c .before .before
+    .before .before .before .before .before .before .before .node9 .given .1))) (wrote-then (c .before .before .before .before .before .before .check-operand
+    .ensures) (c .before .before .check-operand2 .ensures))
+
+condition-returns-3 : (t : ℕ) → check-condition-lts.Need-returns-3 (condition-claims t) (condition-at t) check-condition.Post
+condition-returns-3 t c =
+    wrote-is (scoped-predicate _ _ (condition-arm t (c .before .before .before .before .before .before .before) (c .before .before .before .before .before .node10
+    .given .1))) (c .before .before .reject-nested-agg .ensures)
+
+condition-returns-4 : (t : ℕ) → check-condition-lts.Need-returns-4 (condition-claims t) (condition-at t) check-condition.Post
+condition-returns-4 t c =
+    wrote-is (scoped-tp _ _ (condition-arm t (c .before .before .before .before .before .before .before) (c .before .before .before .before .before .node11 .given .1)))
+    (c .before .before .reject-reserved-binder2 .ensures)
+
+condition-returns-5 : (t : ℕ) → check-condition-lts.Need-returns-5 (condition-claims t) (condition-at t) check-condition.Post
+condition-returns-5 t c =
+    wrote-is (scoped-none _ _ (condition-arm t (c .before) refl) (c .match .keys12)) wrote-none
+
+condition-returns-6 : (t : ℕ) → check-condition-lts.Need-returns-6 (condition-claims t) (condition-at t) check-condition.Post
+condition-returns-6 t c =
+    wrote-is (plain-law (scoped-one _ _) (scoped-refine _ _) (passes t (c .before .before .before .before)) (condition-arm t (c .before .before .before .before .before)
+    refl)) (c .before .before .check-condition2 .ensures)
+
+condition-returns-7 : (t : ℕ) → check-condition-lts.Need-returns-7 (condition-claims t) (condition-at t) check-condition.Post
+condition-returns-7 t c =
+    wrote-is (two-law (scoped-two _ _) (joins t (c .before .before .before .before .before .before .before .before)) (condition-arm t (c .before .before .before .before
+    .before .before .before .before .before) refl)) (wrote-then (c .before .before .before .before .before .before .check-condition3 .ensures) (c .before .before
+    .check-condition4 .ensures))
+
+operand-returns : (t : ℕ) → check-operand-lts.Need-returns (operand-claims t) (operand-at t) check-operand.Post
+operand-returns t c =
+    wrote-is (scoped-skipped _ _ _ (sym (c .before .is-skipped .ensures) ∙ c .if1 .taken)) wrote-none
+
+operand-returns-2 : (t : ℕ) → check-operand-lts.Need-returns-2 (operand-claims t) (operand-at t) check-operand.Post
+operand-returns-2 t c =
+    wrote-is (scoped-arith _ _ (operand-arm t (c .before .before .before .before .before .before .before .before .before .before .before) (c .before .before .before
+    .before .before .before .before .before .before .node .given .1))) (wrote-then (c .before .before .before .before .before .before .check-operand .ensures) (c
+    .before .before .check-operand2 .ensures))
+
+operand-returns-3 : (t : ℕ) → check-operand-lts.Need-returns-3 (operand-claims t) (operand-at t) check-operand.Post
+operand-returns-3 t c =
+    wrote-is (scoped-array _ _ (operand-arm t (c .before .before .before .before .before .before .before) (c .before .before .before .before .before .node4 .given .1)))
+    (c .before .before .reject-nested-agg .ensures)
+
+operand-returns-4 : (t : ℕ) → check-operand-lts.Need-returns-4 (operand-claims t) (operand-at t) check-operand.Post
+operand-returns-4 t c =
+    wrote-is (operand-none _ _ (operand-arm t (c .before) refl) (c .match .keys5)) wrote-none
+
+operand-returns-5 : (t : ℕ) → check-operand-lts.Need-returns-5 (operand-claims t) (operand-at t) check-operand.Post
+operand-returns-5 t c =
+    wrote-is (scoped-aggregate _ _ (gathers t (c .before .before .before .before .before .before .before .before .before .before .before .before)) (c .before .before
+    .before .before .union .ensures ∙ ap₂ _∪_ refl (c .before .before .before .before .before .binder-names .ensures)) (operand-arm t (c .before .before .before
+    .before .before .before .before .before .before .before .before .before .before) refl) (sym (c .before .before .before .before .before .before .before .before
+    .before .before .before .is-skipped .ensures) ∙ c .before .before .before .before .before .before .before .before .before .before .if1 .left)) (wrote-then (c
+    .before .before .before .before .before .before .before .before .check-agg-expr .ensures) (c .before .before .check-condition .ensures))
 
 pub +check-condition+check-operand-spec : {M : Type 1} → statement M
 +check-condition+check-operand-spec =
@@ -107,53 +206,164 @@ pub +check-condition+check-operand-spec : {M : Type 1} → statement M
     (λ c. search needs)
     (λ c. search needs)
     (λ c. search needs)
-    (λ c κs. let a = condition-arm t (c .before .before .before .before) (c .before .before .node8 .given .1) in (slot-tabled (c .before .before .node8 .given .0 .0) (a .tabled), room-first _ _ (room-is (scoped-exists _ _ refl a) (c .before .before .before .before .before .before .before .pre .1 .1))))
-    (λ c κs. let a = condition-arm t (c .before .before .before .before .before .before .before .before) (c .before .before .before .before .before .before .node8 .given .1) in ((slot-tabled (c .before .before .before .before .before .before .node8 .given .0 .0) (a .tabled), a .children .0 .has), room-first _ _ (room-rest _ _ (c .before .before .before .reject-reserved-binder .ensures) (omega (arith, c .before .before .before .reject-reserved-binder .ensures .total)) (room-is (scoped-exists _ _ refl a) (c .before .before .before .before .before .before .before .before .before .before .before .pre .1 .1)))))
-    (λ c κs. slot-tabled (c .before .before .before .before .before .before .before .before .before .node8 .given .0 .0) (condition-arm t (c .before .before .before .before .before .before .before .before .before .before .before) (c .before .before .before .before .before .before .before .before .before .node8 .given .1) .tabled))
+    (λ c κs. let a = condition-arm t (c .before .before .before .before) (c .before .before .node8 .given .1) in (
+      slot-tabled (c .before .before .node8 .given .0 .0) (a
+          .tabled),
+      room-first _ _ (room-is (scoped-exists _ _ refl a) (c .before .before .before .before .before .before .before .pre .1 .1)),
+    ))
+    (λ c κs. let a = condition-arm t (c .before .before .before .before .before .before .before .before) (c .before .before .before .before .before .before .node8
+    .given .1) in (
+      (slot-tabled (c .before .before .before .before .before .before .node8 .given .0 .0) (a .tabled), a .children .0 .has),
+      room-first _ _ (room-rest
+          _ _ (c .before .before .before .reject-reserved-binder .ensures) (omega (arith, c .before .before .before .reject-reserved-binder .ensures .total)) (room-is
+          (scoped-exists _ _ refl a) (c .before .before .before .before .before .before .before .before .before .before .before .pre .1 .1))),
+    ))
+    (λ c κs. slot-tabled (c .before .before .before .before .before .before .before .before .before .node8 .given .0 .0) (condition-arm t (c .before .before .before
+    .before .before .before .before .before .before .before .before) (c .before .before .before .before .before .before .before .before .before .node8 .given .1)
+    .tabled))
     (λ c κs. search needs)
-    (λ c κs. let a = condition-arm t (c .before .before .before .before .before .before .before .before .before .before .before .before .before .before) (c .before .before .before .before .before .before .before .before .before .before .before .before .node8 .given .1) in let d = down (a .children .0) (c .before .before .before .before .before .before .before .before .before .before .before .before .before .before .before .before .before .pre .0) in (d .0, (d .1, room-rest _ _ (c .before .before .before .before .before .check-exists-safe .ensures) (omega (arith, c .before .before .before .before .before .check-exists-safe .ensures .total, c .before .before .before .before .before .before .before .before .before .reject-reserved-binder .ensures .total)) (room-rest _ _ (c .before .before .before .before .before .before .before .before .before .reject-reserved-binder .ensures) (omega (arith, c .before .before .before .before .before .check-exists-safe .ensures .total, c .before .before .before .before .before .before .before .before .before .reject-reserved-binder .ensures .total)) (room-is (scoped-exists _ _ (c .before .union .ensures ∙ ap₂ _∪_ refl (c .before .before .slot-name .ensures)) a) (c .before .before .before .before .before .before .before .before .before .before .before .before .before .before .before .before .before .pre .1 .1))))))
+    (λ c κs. let a = condition-arm t (c .before .before .before .before .before .before .before .before .before .before .before .before .before .before) (c .before
+    .before .before .before .before .before .before .before .before .before .before .before .node8 .given .1) in let d = down (a .children .0) (c .before .before
+    .before .before .before .before .before .before .before .before .before .before .before .before .before .before .before .pre .0) in (
+      d .0,
+      (
+        d .1,
+        room-rest _ _
+            (c .before .before .before .before .before .check-exists-safe .ensures) (omega (
+              arith,
+              c .before .before .before .before .before .check-exists-safe .ensures
+                  .total,
+              c .before .before .before .before .before .before .before .before .before .reject-reserved-binder .ensures .total,
+            )) (room-rest _ _ (c .before .before
+            .before .before .before .before .before .before .before .reject-reserved-binder .ensures) (omega (
+              arith,
+              c .before .before .before .before .before
+                  .check-exists-safe .ensures .total,
+              c .before .before .before .before .before .before .before .before .before .reject-reserved-binder .ensures .total,
+            )) (room-is
+            (scoped-exists _ _ (c .before .union .ensures ∙ ap₂ _∪_ refl (c .before .before .slot-name .ensures)) a) (c .before .before .before .before .before .before
+            .before .before .before .before .before .before .before .before .before .before .before .pre .1 .1))),
+      ),
+    ))
     (λ c. search needs)
-    (λ c κs. let a = condition-arm t (c .before .before .before .before) (c .before .before .node9 .given .1) in let d = down (a .children .0) (c .before .before .before .before .before .before .before .pre .0) in (d .0, (d .1, room-first _ _ (room-is (scoped-comparison _ _ a) (c .before .before .before .before .before .before .before .pre .1 .1)))))
-    (λ c κs. let a = condition-arm t (c .before .before .before .before .before .before .before .before) (c .before .before .before .before .before .before .node9 .given .1) in let d = down (a .children .1 .0) (c .before .before .before .before .before .before .before .before .before .before .before .pre .0) in (d .0, (d .1, room-rest _ _ (c .before .before .before .check-operand .ensures) (omega (arith, c .before .before .before .check-operand .ensures .total)) (room-is (scoped-comparison _ _ a) (c .before .before .before .before .before .before .before .before .before .before .before .pre .1 .1)))))
+    (λ c κs. let a = condition-arm t (c .before .before .before .before) (c .before .before .node9 .given .1) in let d = down (a .children .0) (c .before .before
+    .before .before .before .before .before .pre .0) in (
+      d .0,
+      (
+        d .1,
+        room-first _ _ (room-is (scoped-comparison _ _ a) (c .before .before .before .before .before
+            .before .before .pre .1 .1)),
+      ),
+    ))
+    (λ c κs. let a = condition-arm t (c .before .before .before .before .before .before .before .before) (c .before .before .before .before .before .before .node9
+    .given .1) in let d = down (a .children .1 .0) (c .before .before .before .before .before .before .before .before .before .before .before .pre .0) in (
+      d .0,
+      (
+        d
+            .1,
+        room-rest _ _ (c .before .before .before .check-operand .ensures) (omega (arith, c .before .before .before .check-operand .ensures .total)) (room-is
+            (scoped-comparison _ _ a) (c .before .before .before .before .before .before .before .before .before .before .before .pre .1 .1)),
+      ),
+    ))
     (λ c. search needs)
-    (λ c κs. let a = condition-arm t (c .before .before .before .before) (c .before .before .node10 .given .1) in (a .children .0 .has, room-is (scoped-predicate _ _ a) (c .before .before .before .before .before .before .before .pre .1 .1)))
+    (λ c κs. let a = condition-arm t (c .before .before .before .before) (c .before .before .node10 .given .1) in (
+      a .children .0 .has,
+      room-is (scoped-predicate _ _ a)
+          (c .before .before .before .before .before .before .before .pre .1 .1),
+    ))
     (λ c. search needs)
-    (λ c κs. let a = condition-arm t (c .before .before .before .before) (c .before .before .node11 .given .1) in (slot-tabled (c .before .before .node11 .given .0 .0) (a .tabled), room-is (scoped-tp _ _ a) (c .before .before .before .before .before .before .before .pre .1 .1)))
-    (λ c κs. let a = condition-arm t (c .before .before) refl in let d = down (of-plain (passes t (c .before)) a) (c .before .before .before .before .before .pre .0) in (d .0, (d .1, room-is (plain-law (scoped-one _ _) (scoped-refine _ _) (passes t (c .before)) a) (c .before .before .before .before .before .pre .1 .1))))
-    (λ c κs. let a = condition-arm t (c .before .before) refl in let d = down (of-two (joins t (c .before)) a .0) (c .before .before .before .before .before .pre .0) in (d .0, (d .1, room-first _ _ (room-is (two-law (scoped-two _ _) (joins t (c .before)) a) (c .before .before .before .before .before .pre .1 .1)))))
-    (λ c κs. let a = condition-arm t (c .before .before .before .before .before .before) refl in let d = down (of-two (joins t (c .before .before .before .before .before)) a .1) (c .before .before .before .before .before .before .before .before .before .pre .0) in (d .0, (d .1, room-rest _ _ (c .before .before .before .check-condition3 .ensures) (omega (arith, c .before .before .before .check-condition3 .ensures .total)) (room-is (two-law (scoped-two _ _) (joins t (c .before .before .before .before .before)) a) (c .before .before .before .before .before .before .before .before .before .pre .1 .1)))))
+    (λ c κs. let a = condition-arm t (c .before .before .before .before) (c .before .before .node11 .given .1) in (
+      slot-tabled (c .before .before .node11 .given .0 .0)
+          (a .tabled),
+      room-is (scoped-tp _ _ a) (c .before .before .before .before .before .before .before .pre .1 .1),
+    ))
+    (λ c κs. let a = condition-arm t (c .before .before) refl in let d = down (of-plain (passes t (c .before)) a) (c .before .before .before .before .before .pre .0) in
+    (d .0, (d .1, room-is (plain-law (scoped-one _ _) (scoped-refine _ _) (passes t (c .before)) a) (c .before .before .before .before .before .pre .1 .1))))
+    (λ c κs. let a = condition-arm t (c .before .before) refl in let d = down (of-two (joins t (c .before)) a .0) (c .before .before .before .before .before .pre .0) in
+    (d .0, (d .1, room-first _ _ (room-is (two-law (scoped-two _ _) (joins t (c .before)) a) (c .before .before .before .before .before .pre .1 .1)))))
+    (λ c κs. let a = condition-arm t (c .before .before .before .before .before .before) refl in let d = down (of-two (joins t (c .before .before .before .before
+    .before)) a .1) (c .before .before .before .before .before .before .before .before .before .pre .0) in (
+      d .0,
+      (
+        d .1,
+        room-rest _ _ (c .before .before .before
+            .check-condition3 .ensures) (omega (arith, c .before .before .before .check-condition3 .ensures .total)) (room-is (two-law (scoped-two _ _) (joins t (c .before
+            .before .before .before .before)) a) (c .before .before .before .before .before .before .before .before .before .pre .1 .1)),
+      ),
+    ))
     (λ c. search needs)
-    (λ c. wrote-is (scoped-exists _ _ (c .before .before .before .before .union .ensures ∙ ap₂ _∪_ refl (c .before .before .before .before .before .slot-name .ensures)) (condition-arm t (c .before .before .before .before .before .before .before .before .before .before .before .before .before .before .before .before .before) (c .before .before .before .before .before .before .before .before .before .before .before .before .before .before .before .node8 .given .1))) (wrote-then (c .before .before .before .before .before .before .before .before .before .before .before .before .reject-reserved-binder .ensures) (wrote-then (c .before .before .before .before .before .before .before .before .check-exists-safe .ensures) (c .before .before .check-condition .ensures))))
+    (condition-returns t)
     (λ c. search needs)
-    (λ c. wrote-is (scoped-comparison _ _ (condition-arm t (c .before .before .before .before .before .before .before .before .before .before .before) (c .before .before .before .before .before .before .before .before .before .node9 .given .1))) (wrote-then (c .before .before .before .before .before .before .check-operand .ensures) (c .before .before .check-operand2 .ensures)))
+    (condition-returns-2 t)
     (λ c. search needs)
-    (λ c. wrote-is (scoped-predicate _ _ (condition-arm t (c .before .before .before .before .before .before .before) (c .before .before .before .before .before .node10 .given .1))) (c .before .before .reject-nested-agg .ensures))
+    (condition-returns-3 t)
     (λ c. search needs)
-    (λ c. wrote-is (scoped-tp _ _ (condition-arm t (c .before .before .before .before .before .before .before) (c .before .before .before .before .before .node11 .given .1))) (c .before .before .reject-reserved-binder2 .ensures))
-    (λ c. wrote-is (scoped-none _ _ (condition-arm t (c .before) refl) (c .match .keys12)) wrote-none)
+    (condition-returns-4 t)
+    (condition-returns-5 t)
     (λ c. search needs)
-    (λ c. wrote-is (plain-law (scoped-one _ _) (scoped-refine _ _) (passes t (c .before .before .before .before)) (condition-arm t (c .before .before .before .before .before) refl)) (c .before .before .check-condition2 .ensures))
+    (condition-returns-6 t)
     (λ c. search needs)
-    (λ c. wrote-is (two-law (scoped-two _ _) (joins t (c .before .before .before .before .before .before .before .before)) (condition-arm t (c .before .before .before .before .before .before .before .before .before) refl)) (wrote-then (c .before .before .before .before .before .before .check-condition3 .ensures) (c .before .before .check-condition4 .ensures))))
+    (condition-returns-7 t))
     (λ t. check-operand-lts.spec (operand-claims t) (operand-at t) check-operand.Post
     (λ c κs. c .before .before .pre .1 .0)
     (λ c. search needs)
-    (λ c κs. let a = operand-arm t (c .before .before .before .before) (c .before .before .node .given .1) in let d = down (a .children .0) (c .before .before .before .before .before .before .before .pre .0) in (d .0, (d .1, room-first _ _ (room-is (scoped-arith _ _ a) (c .before .before .before .before .before .before .before .pre .1 .1)))))
-    (λ c κs. let a = operand-arm t (c .before .before .before .before .before .before .before .before) (c .before .before .before .before .before .before .node .given .1) in let d = down (a .children .1 .0) (c .before .before .before .before .before .before .before .before .before .before .before .pre .0) in (d .0, (d .1, room-rest _ _ (c .before .before .before .check-operand .ensures) (omega (arith, c .before .before .before .check-operand .ensures .total)) (room-is (scoped-arith _ _ a) (c .before .before .before .before .before .before .before .before .before .before .before .pre .1 .1)))))
+    (λ c κs. let a = operand-arm t (c .before .before .before .before) (c .before .before .node .given .1) in let d = down (a .children .0) (c .before .before .before
+    .before .before .before .before .pre .0) in (
+      d .0,
+      (
+        d .1,
+        room-first _ _ (room-is (scoped-arith _ _ a) (c .before .before .before .before .before .before
+            .before .pre .1 .1)),
+      ),
+    ))
+    (λ c κs. let a = operand-arm t (c .before .before .before .before .before .before .before .before) (c .before .before .before .before .before .before .node .given
+    .1) in let d = down (a .children .1 .0) (c .before .before .before .before .before .before .before .before .before .before .before .pre .0) in (
+      d .0,
+      (
+        d .1,
+        room-rest _ _ (c .before .before .before .check-operand .ensures) (omega (arith, c .before .before .before .check-operand .ensures .total)) (room-is
+            (scoped-arith _ _ a) (c .before .before .before .before .before .before .before .before .before .before .before .pre .1 .1)),
+      ),
+    ))
     (λ c. search needs)
     (λ c. search needs)
     (λ c. search needs)
-    (λ c κs. let a = operand-arm t (c .before .before .before .before) (c .before .before .node4 .given .1) in (a .children .0 .has, room-is (scoped-array _ _ a) (c .before .before .before .before .before .before .before .pre .1 .1)))
+    (λ c κs. let a = operand-arm t (c .before .before .before .before) (c .before .before .node4 .given .1) in (
+      a .children .0 .has,
+      room-is (scoped-array _ _ a) (c
+          .before .before .before .before .before .before .before .pre .1 .1),
+    ))
     (λ c κs. c .before .before .before .before .pre .1 .0)
-    (λ c. wrote-is (scoped-skipped _ _ _ (sym (c .before .is-skipped .ensures) ∙ c .if1 .taken)) wrote-none)
-    (λ c κs. (c .before .before .before .before .before .before .before .pre .1 .0, room-first _ _ (room-is (scoped-aggregate _ _ (gathers t (c .before .before .before)) refl (operand-arm t (c .before .before .before .before) refl) (sym (c .before .before .is-skipped .ensures) ∙ c .before .if1 .left)) (c .before .before .before .before .before .before .before .pre .1 .1))))
-    (λ c κs. of-aggregate (gathers t (c .before .before .before .before .before .before)) (operand-arm t (c .before .before .before .before .before .before .before) refl) .0 .has)
+    (operand-returns t)
+    (λ c κs. (
+      c .before .before .before .before .before .before .before .pre .1 .0,
+      room-first _ _ (room-is (scoped-aggregate _ _ (gathers t (c .before .before
+          .before)) refl (operand-arm t (c .before .before .before .before) refl) (sym (c .before .before .is-skipped .ensures) ∙ c .before .if1 .left)) (c .before
+          .before .before .before .before .before .before .pre .1 .1)),
+    ))
+    (λ c κs. of-aggregate (gathers t (c .before .before .before .before .before .before)) (operand-arm t (c .before .before .before .before .before .before .before)
+    refl) .0 .has)
     (λ c κs. search needs)
-    (λ c κs. let a = operand-arm t (c .before .before .before .before .before .before .before .before .before .before) refl in let d = down (of-aggregate (gathers t (c .before .before .before .before .before .before .before .before .before)) a .1) (c .before .before .before .before .before .before .before .before .before .before .before .before .before .pre .0) in (d .0, (d .1, room-rest _ _ (c .before .before .before .before .before .check-agg-expr .ensures) (omega (arith, c .before .before .before .before .before .check-agg-expr .ensures .total)) (room-is (scoped-aggregate _ _ (gathers t (c .before .before .before .before .before .before .before .before .before)) (c .before .union .ensures ∙ ap₂ _∪_ refl (c .before .before .binder-names .ensures)) a (sym (c .before .before .before .before .before .before .before .before .is-skipped .ensures) ∙ c .before .before .before .before .before .before .before .if1 .left)) (c .before .before .before .before .before .before .before .before .before .before .before .before .before .pre .1 .1)))))
+    (λ c κs. let a = operand-arm t (c .before .before .before .before .before .before .before .before .before .before) refl in let d = down (of-aggregate (gathers t (c
+    .before .before .before .before .before .before .before .before .before)) a .1) (c .before .before .before .before .before .before .before .before .before
+    .before .before .before .before .pre .0) in (
+      d .0,
+      (
+        d .1,
+        room-rest _ _ (c .before .before .before .before .before .check-agg-expr .ensures) (omega (
+          arith,
+          c
+              .before .before .before .before .before .check-agg-expr .ensures .total,
+        )) (room-is (scoped-aggregate _ _ (gathers t (c .before .before .before .before .before
+            .before .before .before .before)) (c .before .union .ensures ∙ ap₂ _∪_ refl (c .before .before .binder-names .ensures)) a (sym (c .before .before .before
+            .before .before .before .before .before .is-skipped .ensures) ∙ c .before .before .before .before .before .before .before .if1 .left)) (c .before .before
+            .before .before .before .before .before .before .before .before .before .before .before .pre .1 .1)),
+      ),
+    ))
     (λ c. search needs)
-    (λ c. wrote-is (scoped-arith _ _ (operand-arm t (c .before .before .before .before .before .before .before .before .before .before .before) (c .before .before .before .before .before .before .before .before .before .node .given .1))) (wrote-then (c .before .before .before .before .before .before .check-operand .ensures) (c .before .before .check-operand2 .ensures)))
+    (operand-returns-2 t)
     (λ c. search needs)
-    (λ c. wrote-is (scoped-array _ _ (operand-arm t (c .before .before .before .before .before .before .before) (c .before .before .before .before .before .node4 .given .1))) (c .before .before .reject-nested-agg .ensures))
-    (λ c. wrote-is (operand-none _ _ (operand-arm t (c .before) refl) (c .match .keys5)) wrote-none)
+    (operand-returns-3 t)
+    (operand-returns-4 t)
     (λ c. search needs)
-    (λ c. wrote-is (scoped-aggregate _ _ (gathers t (c .before .before .before .before .before .before .before .before .before .before .before .before)) (c .before .before .before .before .union .ensures ∙ ap₂ _∪_ refl (c .before .before .before .before .before .binder-names .ensures)) (operand-arm t (c .before .before .before .before .before .before .before .before .before .before .before .before .before) refl) (sym (c .before .before .before .before .before .before .before .before .before .before .before .is-skipped .ensures) ∙ c .before .before .before .before .before .before .before .before .before .before .if1 .left)) (wrote-then (c .before .before .before .before .before .before .before .before .check-agg-expr .ensures) (c .before .before .check-condition .ensures))))
+    (operand-returns-5 t))

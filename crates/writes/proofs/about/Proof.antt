@@ -1,5 +1,3 @@
-use mathlib.Core.Path.{sym, ap}
-use borrow.Author.Needs.{needs}
 use borrow.Author.Tests.{eq-eqb, ne-eqb}
 use Rattle.paper.specs.TheList.{about}
 use Rattle.writes.proofs.about.Statement.{statement}

@@ -1,4 +1,4 @@
-use mathlib.Core.Path.{_≡_, sym, ap}
+use mathlib.Core.Path.{ap}
 use borrow.Author.Needs.{needs}
 use borrow.Author.Tests.{eq-eqb, ne-eqb}
 use Rattle.paper.specs.declared.Finding.{Finding}

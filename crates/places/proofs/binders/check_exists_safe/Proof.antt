@@ -4,6 +4,10 @@ use Rattle.writes.proofs.NameLaws.{for-same}
 use Rattle.places.proofs.binders.check_exists_safe.Statement.{statement}
 use Rattle.places.proofs.binders.check_exists_safe.Tie as tie
 
+returns : tie.Need-returns
+returns c =
+    wrote-is (for-same _ _ (c .before .before .before .before .unsafe-name .ensures)) (c .before .before .emit .ensures)
+
 pub check-exists-safe-spec : {M : Type 1} → statement M
 check-exists-safe-spec =
     tie.close
@@ -11,4 +15,4 @@ check-exists-safe-spec =
     (λ c κs. c .before .before .pre .0)
     (λ c κs. room-is (for-same _ _ (c .before .unsafe-name .ensures)) (c .before .before .before .before .pre .1))
     (λ c. search needs)
-    (λ c. wrote-is (for-same _ _ (c .before .before .before .before .unsafe-name .ensures)) (c .before .before .emit .ensures)))
+    returns)

@@ -39,32 +39,71 @@ search-arm : (t : ℕ) (c : reject-nested-agg-lts.After-node-at (search-claims t
     → Arm (now (c .before .before .before .args .bytes)) (now (c .before .before .before .args .starts)) (c .before .before .before .args .i .0) m
 search-arm t c p = arm _ _ _ _ _ (c .before .before .before .pre .1 .0) (c .node-at .ensures) p
 
-row : (t : ℕ) (c : reject-nested-agg-lts.At-match-came (search-claims t) (search-at t) reject-nested-agg.Post) → Row (c .match .t) (c .match .rest) (c .before .node-at .result)
+row : (t : ℕ) (c : reject-nested-agg-lts.At-match-came (search-claims t) (search-at t) reject-nested-agg.Post) → Row (c .match .t) (c .match .rest) (c .before .node-at
+    .result)
 row t c =
     ⊎-elim (λ w. met₂ Row (node.ArgumentCell (w .1 .given .0 .0)) (λ l r. argument) (w .1 .given .1) (w .3) (w .4))
     (λ w. met₂ Row node.ItemCell (λ l r. item) (w .1 .given .1) (w .3) (w .4))
     (c .match .came)
+
+search-returns : (t : ℕ) → reject-nested-agg-lts.Need-returns (search-claims t) (search-at t) reject-nested-agg.Post
+search-returns t c =
+    wrote-is (in-nested (search-arm t (c .before .before .before .before .before) refl) ∙ nested-aggregate _ _ _ (c .before .before .before .before .match .keys1)) (c
+    .before .before .reject .ensures)
+
+search-returns-2 : (t : ℕ) → reject-nested-agg-lts.Need-returns-2 (search-claims t) (search-at t) reject-nested-agg.Post
+search-returns-2 t c =
+    wrote-is (nested-arith (search-arm t (c .before .before .before .before .before .before) (c .before .before .before .before .enum-told .given .1))) (c .before
+    .before .reject2 .ensures)
+
+search-returns-3 : (t : ℕ) → reject-nested-agg-lts.Need-returns-3 (search-claims t) (search-at t) reject-nested-agg.Post
+search-returns-3 t c =
+    wrote-is (nested-array (search-arm t (c .before .before .before .before .before .before .before) (c .before .before .before .before .before .node .given .1))) (c
+    .before .before .reject-nested-agg .ensures)
+
+search-returns-4 : (t : ℕ) → reject-nested-agg-lts.Need-returns-4 (search-claims t) (search-at t) reject-nested-agg.Post
+search-returns-4 t c =
+    wrote-is (in-nested (search-arm t (c .before) refl) ∙ no-nested _ _ _ (c .match .keys6)) wrote-none
+
+search-returns-5 : (t : ℕ) → reject-nested-agg-lts.Need-returns-5 (search-claims t) (search-at t) reject-nested-agg.Post
+search-returns-5 t c =
+    wrote-is (nested-row (row t (c .before .before .before .before .before .before .before .before)) (search-arm t (c .before .before .before .before .before .before
+    .before .before .before) refl)) (wrote-then (c .before .before .before .before .before .before .reject-nested-agg2 .ensures) (c .before .before
+    .reject-nested-agg3 .ensures))
 
 pub +reject-nested-agg-spec : {M : Type 1} → statement M
 +reject-nested-agg-spec =
     close μ-search
     (λ t. reject-nested-agg-lts.spec (search-claims t) (search-at t) reject-nested-agg.Post
     (λ c κs. c .before .before .pre .1 .0)
-    (λ c κs. room-is (in-nested (search-arm t (c .before .before) refl) ∙ nested-aggregate _ _ _ (c .before .match .keys1)) (c .before .before .before .before .before .pre .1 .1))
+    (λ c κs. room-is (in-nested (search-arm t (c .before .before) refl) ∙ nested-aggregate _ _ _ (c .before .match .keys1)) (c .before .before .before .before .before
+    .pre .1 .1))
     (λ c. search needs)
-    (λ c κs. room-is (nested-arith (search-arm t (c .before .before .before) (c .before .enum-told .given .1))) (c .before .before .before .before .before .before .pre .1 .1))
+    (λ c κs. room-is (nested-arith (search-arm t (c .before .before .before) (c .before .enum-told .given .1))) (c .before .before .before .before .before .before .pre
+    .1 .1))
     (λ c. search needs)
-    (λ c κs. let a = search-arm t (c .before .before .before .before) (c .before .before .node .given .1) in let d = down (a .children .0) (c .before .before .before .before .before .before .before .pre .0) in (d .0, (d .1, room-is (nested-array a) (c .before .before .before .before .before .before .before .pre .1 .1))))
+    (λ c κs. let a = search-arm t (c .before .before .before .before) (c .before .before .node .given .1) in let d = down (a .children .0) (c .before .before .before
+    .before .before .before .before .pre .0) in (d .0, (d .1, room-is (nested-array a) (c .before .before .before .before .before .before .before .pre .1 .1))))
     (λ c. search needs)
     (λ c. search needs)
-    (λ c κs. let a = search-arm t (c .before .before) refl in let d = down (of-terms (row-terms (row t (c .before))) a .0) (c .before .before .before .before .before .pre .0) in (d .0, (d .1, room-first _ _ (room-is (nested-row (row t (c .before)) a) (c .before .before .before .before .before .pre .1 .1)))))
-    (λ c κs. let a = search-arm t (c .before .before .before .before .before .before) refl in let d = down (of-terms (row-terms (row t (c .before .before .before .before .before))) a .1) (c .before .before .before .before .before .before .before .before .before .pre .0) in (d .0, (d .1, room-rest _ _ (c .before .before .before .reject-nested-agg2 .ensures) (omega (arith, c .before .before .before .reject-nested-agg2 .ensures .total)) (room-is (nested-row (row t (c .before .before .before .before .before)) a) (c .before .before .before .before .before .before .before .before .before .pre .1 .1)))))
+    (λ c κs. let a = search-arm t (c .before .before) refl in let d = down (of-terms (row-terms (row t (c .before))) a .0) (c .before .before .before .before .before
+    .pre .0) in (d .0, (d .1, room-first _ _ (room-is (nested-row (row t (c .before)) a) (c .before .before .before .before .before .pre .1 .1)))))
+    (λ c κs. let a = search-arm t (c .before .before .before .before .before .before) refl in let d = down (of-terms (row-terms (row t (c .before .before .before
+    .before .before))) a .1) (c .before .before .before .before .before .before .before .before .before .pre .0) in (
+      d .0,
+      (
+        d .1,
+        room-rest _ _ (c .before .before
+            .before .reject-nested-agg2 .ensures) (omega (arith, c .before .before .before .reject-nested-agg2 .ensures .total)) (room-is (nested-row (row t (c .before
+            .before .before .before .before)) a) (c .before .before .before .before .before .before .before .before .before .pre .1 .1)),
+      ),
+    ))
     (λ c. search needs)
-    (λ c. wrote-is (in-nested (search-arm t (c .before .before .before .before .before) refl) ∙ nested-aggregate _ _ _ (c .before .before .before .before .match .keys1)) (c .before .before .reject .ensures))
+    (search-returns t)
     (λ c. search needs)
-    (λ c. wrote-is (nested-arith (search-arm t (c .before .before .before .before .before .before) (c .before .before .before .before .enum-told .given .1))) (c .before .before .reject2 .ensures))
+    (search-returns-2 t)
     (λ c. search needs)
-    (λ c. wrote-is (nested-array (search-arm t (c .before .before .before .before .before .before .before) (c .before .before .before .before .before .node .given .1))) (c .before .before .reject-nested-agg .ensures))
-    (λ c. wrote-is (in-nested (search-arm t (c .before) refl) ∙ no-nested _ _ _ (c .match .keys6)) wrote-none)
+    (search-returns-3 t)
+    (search-returns-4 t)
     (λ c. search needs)
-    (λ c. wrote-is (nested-row (row t (c .before .before .before .before .before .before .before .before)) (search-arm t (c .before .before .before .before .before .before .before .before .before) refl)) (wrote-then (c .before .before .before .before .before .before .reject-nested-agg2 .ensures) (c .before .before .reject-nested-agg3 .ensures))))
+    (search-returns-5 t))
