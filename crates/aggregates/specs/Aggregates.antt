@@ -1,13 +1,13 @@
 -- An aggregate's own entries, and whether it is skipped. Assumes nothing: these are definitions.
 use mathlib.Core.Bool.{Bool, false, _||_}
-use mathlib.Core.List.{List, [], _∷_}
+use mathlib.Core.List.{List, []}
 use Rattle.paper.specs.declared.NodeNo.{NodeNo}
-use Rattle.paper.specs.Sets.{Set, none, _∪_, _∖_, outside}
+use Rattle.paper.specs.Sets.{Set, none}
 use Rattle.paper.specs.Tree.{Condition, Term, Binders}
 use Rattle.paper.specs.Tree.Term.{Var, Wildcard, Value, Sigil, Array, Arith, Sum, Count, AggregateCall}
-use Rattle.paper.specs.FreeAndRestricted.{named, is-sigil, binder-names, free, restricted}
-use Rattle.paper.specs.Places.{Broken, for-names, at-cells}
-use Rattle.paper.specs.Scoping.{binder-sigil, cells}
+use Rattle.paper.specs.FreeAndRestricted.{named, is-sigil}
+use Rattle.paper.specs.Places.{Broken}
+use Rattle.paper.specs.Scoping.{binder-sigil, aggregate-rules}
 
 -- the summed slot or a binder is a sigil
 unfoldable pub skips : Term → Bool
@@ -23,13 +23,7 @@ skips (AggregateCall n y) = false
 
 -- the five rules of an aggregate that is not skipped
 unfoldable pub five : Set → NodeNo → Set → Binders → Condition → Set → List Broken
-five words n summed l b scope =
-    at-cells 22 words (cells l)
-    ∷ for-names 24 n (summed ∖ binder-names l)
-    ∷ for-names 25 n (free b ∖ (scope ∪ binder-names l))
-    ∷ at-cells 26 (outside (free b)) (cells l)
-    ∷ at-cells 27 (outside (restricted b)) (cells l)
-    ∷ []
+five words n summed l b scope = aggregate-rules words n summed l b scope
 
 unfoldable pub five-of : Set → Term → Set → List Broken
 five-of words (Var n x) scope = []

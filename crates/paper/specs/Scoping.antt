@@ -152,15 +152,18 @@ module _ (words : Set) where
 
   -- "24: summed name not among its binders; 25: a free name of the body neither in scope nor a binder; 26: a binder not free in the body;
   -- 27: a binder not restricted in it." "22, 26, 27 of an aggregate stand at the binder cell; all others at the node itself."
-  abbrev aggregate-broken : Bool → NodeNo → Set → Binders → Condition → Set → List Broken
-  aggregate-broken sigil n summed l b scope =
-      pick (sigil || binder-sigil l) []
-      (at-cells 22 words (cells l)
+  abbrev pub aggregate-rules : NodeNo → Set → Binders → Condition → Set → List Broken
+  aggregate-rules n summed l b scope =
+      at-cells 22 words (cells l)
       ∷ for-names 24 n (summed ∖ binder-names l)
       ∷ for-names 25 n (free b ∖ (scope ∪ binder-names l))
       ∷ at-cells 26 (outside (free b)) (cells l)
       ∷ at-cells 27 (outside (restricted b)) (cells l)
-      ∷ [])
+      ∷ []
+
+  -- "An aggregate whose summed slot or any binder is a sigil is skipped"
+  abbrev aggregate-broken : Bool → NodeNo → Set → Binders → Condition → Set → List Broken
+  aggregate-broken sigil n summed l b scope = pick (sigil || binder-sigil l) [] (aggregate-rules n summed l b scope)
 
   abbrev operand-broken : Term → Set → List Broken
   operand-broken (Var n x) scope = []

@@ -11,6 +11,8 @@ use Rattle.paper.specs.declared.Node.{Node}
 use Rattle.paper.specs.declared.Node.the-variants as node
 use Rattle.paper.specs.Record.{node-no}
 use Rattle.paper.specs.Tree.{Tree, planted}
+use Rattle.paper.specs.Tree.Arguments.{no-argument}
+use Rattle.paper.specs.Tree.Items.{no-item}
 use Rattle.paper.specs.Places.{itself, findings}
 use Rattle.trees.specs.Trees.{tree-of, in-terms}
 use Rattle.trees.proofs.Arms.{Arm}
@@ -20,11 +22,11 @@ use Rattle.trees.proofs.Shapes.Row.{argument, item}
 use Rattle.trees.proofs.ByKind.{kinds-in-terms, no-other, in-terms-cases}
 use Rattle.places.specs.Nested.{nested, nested-arguments, nested-items, nested-in}
 
-no-argument-nested : (n : NodeNo) → nested-arguments (Rattle.paper.specs.Tree.Arguments.no-argument n) ≡ []
+pub no-argument-nested : (n : NodeNo) → nested-arguments (no-argument n) ≡ []
 unfolding nested
 no-argument-nested n = refl
 
-no-item-nested : (n : NodeNo) → nested-items (Rattle.paper.specs.Tree.Items.no-item n) ≡ []
+pub no-item-nested : (n : NodeNo) → nested-items (no-item n) ≡ []
 unfolding nested
 no-item-nested n = refl
 

@@ -1,5 +1,5 @@
 -- What `check_condition` and `check_operand` find at a node: by `found-at`, what is broken there and then what is found below. Assumes nothing.
-use mathlib.Core.Path.{_≡_, refl, sym, ap, ap₂, _∙_, subst}
+use mathlib.Core.Path.{_≡_, sym, ap, ap₂, _∙_, subst}
 use mathlib.Core.Bool.{true, false, true≢false}
 use mathlib.Core.List.{List, [], _∷_, _++_, append-nil, append-assoc}
 use Prim.Native.Nat.{ℕ}
@@ -30,6 +30,7 @@ use Rattle.trees.proofs.Shapes.{Aggregate, sum, count}
 use Rattle.trees.proofs.ByKind.{condition-cases, term-cases}
 use Rattle.trees.proofs.Joins.{JoinsTwo, PassesOne}
 use Rattle.places.specs.Nested.{nested, nested-arguments, nested-items, nested-in}
+use Rattle.places.proofs.NestedLaws.{no-argument-nested, no-item-nested}
 use Rattle.aggregates.specs.Aggregates.{skips, five, five-of}
 use Rattle.scoping.specs.Scoped.{scoped}
 
@@ -50,14 +51,6 @@ unentered-kinds = 0 ∷ 1 ∷ 2 ∷ 3 ∷ 4 ∷ 5 ∷ 6 ∷ 7 ∷ 8 ∷ 9 ∷ 10
 
 once : (a : List Finding) → (a ++ []) ++ [] ≡ a
 once a = append-nil (a ++ []) ∙ append-nil a
-
-no-argument-nested : (n : NodeNo) → nested-arguments (no-argument n) ≡ []
-unfolding nested
-no-argument-nested n = refl
-
-no-item-nested : (n : NodeNo) → nested-items (no-item n) ≡ []
-unfolding nested
-no-item-nested n = refl
 
 module _ (words scope : Set) where
   abbrev from : Spot → List Finding
