@@ -1,5 +1,5 @@
 // What the reader and the list say, as lines of text.
-use noravilump::list;
+use questions::list;
 use paper::Listing;
 use paper::NameNo;
 use paper::Verdict;

@@ -98,7 +98,7 @@ pub extern "C" fn probe_scoping(bytes: &[u8], lo: u64, hi: u64) -> Asked
     ensures { λ r. ⌜ r ≡ asked (answer-numbers (scoping (now (bytes .entry)) (mem (record { lo = lo; hi = hi })))) ⌝ }
 {
     let seed = Names { lo: lo, hi: hi };
-    let a = noravilump::scoping(bytes, seed);
+    let a = questions::scoping(bytes, seed);
     answered(a)
 }
 
@@ -106,7 +106,7 @@ pub extern "C" fn probe_scoping(bytes: &[u8], lo: u64, hi: u64) -> Asked
 pub extern "C" fn probe_closedness(bytes: &[u8]) -> Asked
     ensures { λ r. ⌜ r ≡ asked (answer-numbers (closedness (now (bytes .entry)))) ⌝ }
 {
-    let a = noravilump::closedness(bytes);
+    let a = questions::closedness(bytes);
     answered(a)
 }
 
@@ -114,7 +114,7 @@ pub extern "C" fn probe_closedness(bytes: &[u8]) -> Asked
 pub extern "C" fn probe_demands(bytes: &[u8]) -> Asked
     ensures { λ r. ⌜ r ≡ asked (answer-numbers (demands (now (bytes .entry)))) ⌝ }
 {
-    let a = noravilump::demands(bytes);
+    let a = questions::demands(bytes);
     answered(a)
 }
 
@@ -122,7 +122,7 @@ pub extern "C" fn probe_demands(bytes: &[u8]) -> Asked
 pub extern "C" fn probe_arithmetic(bytes: &[u8]) -> Asked
     ensures { λ r. ⌜ r ≡ asked (arithmetic-numbers (arithmetic (now (bytes .entry)))) ⌝ }
 {
-    match noravilump::arithmetic(bytes) {
+    match questions::arithmetic(bytes) {
         Arithmetic::Yes => told(40, 0, 255),
         Arithmetic::No => told(0, 0, 255),
         Arithmetic::Refused { number, offset } => told(number, offset, 255),
@@ -143,6 +143,6 @@ fn listed(l: Listing) -> Asked
 pub extern "C" fn probe_list(bytes: &[u8], out: &mut [u32]) -> Asked
     ensures { λ r. ⌜ (r ≡ asked (listing-numbers (list (now (bytes .entry)) (length (now (out .entry)))))) × (now (out .exit) ≡ list-buffer (now (bytes .entry)) (now (out .entry))) ⌝ }
 {
-    let l = noravilump::list(bytes, out);
+    let l = questions::list(bytes, out);
     listed(l)
 }

@@ -1,10 +1,10 @@
 -- `scoping` answers as the definitions do, for all bytes and every seed.
 use mathlib.Core.Path.{sym, ap, _∙_}
 use borrow.Author.Needs.{needs}
-use Rattle.noravilump.specs.Passed.{answer-passed}
-use Rattle.noravilump.proofs.Asked.{scoping-refused, some-root, has-root, scoping-room, scoping-told}
-use Rattle.noravilump.proofs.scoping.Statement.{statement}
-use Rattle.noravilump.proofs.scoping.Tie as tie
+use Rattle.questions.specs.Passed.{answer-passed}
+use Rattle.questions.proofs.Asked.{scoping-refused, some-root, has-root, scoping-room, scoping-told}
+use Rattle.questions.proofs.scoping.Statement.{statement}
+use Rattle.questions.proofs.scoping.Tie as tie
 
 returns : tie.Need-returns
 unfolding answer-passed

@@ -3,10 +3,10 @@ use mathlib.Core.Path.{sym, ap, _∙_}
 use borrow.Author.Needs.{needs}
 use Rattle.paper.specs.declared.Arithmetic.the-variants.{Yes, No}
 use Rattle.paper.specs.Record.{pick}
-use Rattle.noravilump.specs.Passed.{arithmetic-passed}
-use Rattle.noravilump.proofs.Asked.{arithmetic-refused, some-root, has-root, arithmetic-told}
-use Rattle.noravilump.proofs.arithmetic.Statement.{statement}
-use Rattle.noravilump.proofs.arithmetic.Tie as tie
+use Rattle.questions.specs.Passed.{arithmetic-passed}
+use Rattle.questions.proofs.Asked.{arithmetic-refused, some-root, has-root, arithmetic-told}
+use Rattle.questions.proofs.arithmetic.Statement.{statement}
+use Rattle.questions.proofs.arithmetic.Tie as tie
 
 returns : tie.Need-returns
 unfolding arithmetic-passed

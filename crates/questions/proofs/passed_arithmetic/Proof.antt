@@ -1,9 +1,9 @@
 -- A refusal is passed on as the arithmetic test answers it.
 use mathlib.Core.Path.{sym, ap}
 use borrow.Author.Needs.{needs}
-use Rattle.noravilump.specs.Passed.{arithmetic-passed}
-use Rattle.noravilump.proofs.passed_arithmetic.Statement.{statement}
-use Rattle.noravilump.proofs.passed_arithmetic.Tie as tie
+use Rattle.questions.specs.Passed.{arithmetic-passed}
+use Rattle.questions.proofs.passed_arithmetic.Statement.{statement}
+use Rattle.questions.proofs.passed_arithmetic.Tie as tie
 
 returns : tie.Need-returns
 unfolding arithmetic-passed

@@ -1,10 +1,10 @@
 -- `closedness` answers as the definitions do, for all bytes.
 use mathlib.Core.Path.{sym, ap, _∙_}
 use borrow.Author.Needs.{needs}
-use Rattle.noravilump.specs.Passed.{answer-passed}
-use Rattle.noravilump.proofs.Asked.{closedness-refused, some-root, has-root, closedness-room, closedness-told}
-use Rattle.noravilump.proofs.closedness.Statement.{statement}
-use Rattle.noravilump.proofs.closedness.Tie as tie
+use Rattle.questions.specs.Passed.{answer-passed}
+use Rattle.questions.proofs.Asked.{closedness-refused, some-root, has-root, closedness-room, closedness-told}
+use Rattle.questions.proofs.closedness.Statement.{statement}
+use Rattle.questions.proofs.closedness.Tie as tie
 
 returns : tie.Need-returns
 unfolding answer-passed

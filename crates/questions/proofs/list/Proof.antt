@@ -1,10 +1,10 @@
 -- `list` answers as the definitions do, and leaves in the buffer what they say, for all bytes and every buffer.
 use mathlib.Core.Path.{sym, ap, _∙_}
 use borrow.Author.Needs.{needs}
-use Rattle.noravilump.specs.Passed.{listing-passed}
-use Rattle.noravilump.proofs.Asked.{list-refused, some-root, has-root, list-room, list-without-room, list-with-room}
-use Rattle.noravilump.proofs.list.Statement.{statement}
-use Rattle.noravilump.proofs.list.Tie as tie
+use Rattle.questions.specs.Passed.{listing-passed}
+use Rattle.questions.proofs.Asked.{list-refused, some-root, has-root, list-room, list-without-room, list-with-room}
+use Rattle.questions.proofs.list.Statement.{statement}
+use Rattle.questions.proofs.list.Tie as tie
 
 returns : tie.Need-returns
 unfolding listing-passed

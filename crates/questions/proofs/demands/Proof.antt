@@ -1,10 +1,10 @@
 -- `demands` answers as the definitions do, for all bytes.
 use mathlib.Core.Path.{sym, ap, _∙_}
 use borrow.Author.Needs.{needs}
-use Rattle.noravilump.specs.Passed.{answer-passed}
-use Rattle.noravilump.proofs.Asked.{demands-refused, some-root, has-root, demands-room, demands-told}
-use Rattle.noravilump.proofs.demands.Statement.{statement}
-use Rattle.noravilump.proofs.demands.Tie as tie
+use Rattle.questions.specs.Passed.{answer-passed}
+use Rattle.questions.proofs.Asked.{demands-refused, some-root, has-root, demands-room, demands-told}
+use Rattle.questions.proofs.demands.Statement.{statement}
+use Rattle.questions.proofs.demands.Tie as tie
 
 returns : tie.Need-returns
 unfolding answer-passed

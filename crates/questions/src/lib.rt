@@ -18,7 +18,7 @@ ghost use Prim.Native.Nat.{_-_, _<_, _≤_};
 ghost use Rattle.paper.specs.Record.{node-no};
 ghost use Rattle.paper.specs.Questions.{scoping as scoping-answer, closedness as closedness-answer, demands as demands-answer, arithmetic as arithmetic-answer, list as list-answer, list-buffer};
 ghost use Rattle.names.specs.Words.{mem};
-ghost use Rattle.noravilump.specs.Passed.{answer-passed, arithmetic-passed, listing-passed};
+ghost use Rattle.questions.specs.Passed.{answer-passed, arithmetic-passed, listing-passed};
 
 // The last node.
 fn root(nodes: usize) -> NodeNo

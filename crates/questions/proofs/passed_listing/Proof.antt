@@ -1,9 +1,9 @@
 -- A refusal is passed on as the list answers it.
 use mathlib.Core.Path.{sym, ap}
 use borrow.Author.Needs.{needs}
-use Rattle.noravilump.specs.Passed.{listing-passed}
-use Rattle.noravilump.proofs.passed_listing.Statement.{statement}
-use Rattle.noravilump.proofs.passed_listing.Tie as tie
+use Rattle.questions.specs.Passed.{listing-passed}
+use Rattle.questions.proofs.passed_listing.Statement.{statement}
+use Rattle.questions.proofs.passed_listing.Tie as tie
 
 returns : tie.Need-returns
 unfolding listing-passed

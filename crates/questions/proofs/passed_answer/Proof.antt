@@ -1,9 +1,9 @@
 -- A refusal is passed on as closedness answers it.
 use mathlib.Core.Path.{sym, ap}
 use borrow.Author.Needs.{needs}
-use Rattle.noravilump.specs.Passed.{answer-passed}
-use Rattle.noravilump.proofs.passed_answer.Statement.{statement}
-use Rattle.noravilump.proofs.passed_answer.Tie as tie
+use Rattle.questions.specs.Passed.{answer-passed}
+use Rattle.questions.proofs.passed_answer.Statement.{statement}
+use Rattle.questions.proofs.passed_answer.Tie as tie
 
 returns : tie.Need-returns
 unfolding answer-passed

@@ -1,8 +1,8 @@
 -- `root` is the last node.
 use mathlib.Core.Path.{refl}
 use borrow.Author.Needs.{needs}
-use Rattle.noravilump.proofs.root.Statement.{statement}
-use Rattle.noravilump.proofs.root.Tie as tie
+use Rattle.questions.proofs.root.Statement.{statement}
+use Rattle.questions.proofs.root.Tie as tie
 
 returns : tie.Need-returns
 returns c = refl
