@@ -25,7 +25,7 @@ use Rattle.paper.specs.Places.{Exactly}
 use Rattle.paper.specs.Scoping.{ScopingUnmet, scoping-part}
 use Rattle.paper.specs.Demands.{ClosednessUnmet, closedness-part, DemandUnmet, demands-part}
 use Rattle.paper.specs.TheList.{the-list, packed}
-use Rattle.paper.specs.Questions.{first, answered, scoping, closedness, demands, arithmetic, listing-of, list, buffer-of, list-buffer, name}
+use Rattle.paper.specs.Questions.{first, answered, scoping, closedness, demands, arithmetic, listing-of, list, buffer-of, list-buffer, name, Stretch, name-stretch}
 use Rattle.paper.proofs.Ascending.{exactly-one}
 use Rattle.paper.proofs.Walks.{nil-cons}
 use Rattle.paper.proofs.Exact.{scoping-exact, closedness-exact, demands-exact}
@@ -181,6 +181,9 @@ arithmetic-decided bytes = decided (arithmetic bytes)
 
 pub name-decided : (bytes : List ℕ) (x : ℕ) → Decides (λ (n : List ℕ). n ≡ name bytes x)
 name-decided bytes x = decided (name bytes x)
+
+pub stretch-decided : (bytes : List ℕ) (x : ℕ) → Decides (λ (s : Stretch). s ≡ name-stretch bytes x)
+stretch-decided bytes x = decided (name-stretch bytes x)
 
 -- the result and what the buffer holds afterwards, together
 pub list-decided : (bytes before : List ℕ)

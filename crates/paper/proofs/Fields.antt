@@ -159,7 +159,7 @@ all-say = (
 
 -- ---- a kind of the table
 
-in-table : (P : Kind → Type 0) (rs : List Kind) → All P rs → (k : ℕ) (r : Kind) → node-kind rs k ≡ node r → P r
+pub in-table : (P : Kind → Type 0) (rs : List Kind) → All P rs → (k : ℕ) (r : Kind) → node-kind rs k ≡ node r → P r
 unfolding node-kind
 in-table P [] a k r e = absurd (let z : _≡_ {A = ℕ} 0 1 = cc in omega arith)
 in-table P (x ∷ rs) a k r e = go (eqb k (x .kind)) e (in-table P rs (a .1) k r)

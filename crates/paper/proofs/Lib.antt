@@ -17,6 +17,8 @@ pub mod SanePlaces
 pub mod Tallies
 pub mod Lengths
 pub mod Fitting
+pub mod Offsets
+pub mod Named
 pub mod Seed
 pub mod Once
 pub mod Parts

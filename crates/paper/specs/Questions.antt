@@ -1,9 +1,9 @@
 -- The public questions: for each, its answer as a function of the bytes, and of the seed or the lent buffer; and document 01's numbers for the
 -- cases of each answer. "A refusal by the reader is passed up unchanged by every question but the name lookup." Assumes nothing: these are definitions.
-use Prim.Native.Nat.{ℕ}
+use Prim.Native.Nat.{ℕ, _+_, _*_}
 use mathlib.Core.Bool.{Bool, true, false}
 use mathlib.Core.List.{List, [], _∷_, _++_}
-use lib.Dec.{leb}
+use lib.Dec.{leb, ltb}
 use lib.ListN.{length, drop}
 use Rattle.paper.specs.declared.Finding.{Finding}
 use Rattle.paper.specs.declared.Answer.{Answer}
@@ -75,6 +75,21 @@ name-of (accepted c) x = name-text c x
 
 unfoldable pub name : List ℕ → ℕ → List ℕ
 name bytes x = name-of (read bytes) x
+
+-- "that stretch of the caller's own bytes": where it begins, after the format record and the name records before it, and how many bytes it has
+pub record Stretch : Type 0 where
+  pub at : ℕ
+  pub len : ℕ
+
+abbrev no-stretch : Stretch
+no-stretch = record { at = 0; len = 0 }
+
+unfoldable pub stretch-of : Outcome → ℕ → Stretch
+stretch-of (refused number offset) x = no-stretch
+stretch-of (accepted c) x = pick (ltb x (length (c .names))) (record { at = 3 + 25 * x; len = length (name-text c x) }) no-stretch
+
+unfoldable pub name-stretch : List ℕ → ℕ → Stretch
+name-stretch bytes x = stretch-of (read bytes) x
 
 -- ---- document 01's numbers for an answer
 
