@@ -1,0 +1,3 @@
+-- What the C face's proofs cite.
+pub mod Places
+pub mod Stretches

@@ -1,0 +1,2 @@
+-- Answers and stretches as the structs of the C face.
+pub mod Numbers

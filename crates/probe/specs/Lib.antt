@@ -1,2 +1,0 @@
--- A verdict as plain numbers.
-pub mod Numbers
