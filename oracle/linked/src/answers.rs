@@ -9,7 +9,7 @@ use plain::{Record, Refusal};
 use crate::seeds::{Seeds, SEEDS};
 use crate::{Asked, Library, Reading, NO_NAME};
 
-const HAS_ARITHMETIC: usize = 40;
+const HAS_ARITHMETIC: u32 = 40;
 
 const QUESTIONS: [&str; SEEDS + 3] = [
     "scoping without a seed",
@@ -35,8 +35,8 @@ pub struct Answers<A> {
 /// The Rust has no nodes.
 #[derive(Debug, Clone, Copy, PartialEq, Eq)]
 pub struct RuleAndName {
-    pub rule: usize,
-    pub name: usize,
+    pub rule: u32,
+    pub name: u32,
 }
 
 impl Answers<Asked> {
@@ -128,9 +128,9 @@ pub const NOTHING: Asked = Asked {
 
 pub fn first<'a>(entries: impl IntoIterator<Item = &'a Entry>) -> Asked {
     entries.into_iter().next().map_or(NOTHING, |entry| Asked {
-        number: entry.rule as usize,
-        place: usize::from(entry.node),
-        name: entry.name.map_or(NO_NAME, usize::from),
+        number: entry.rule,
+        place: u32::from(entry.node),
+        name: entry.name.map_or(NO_NAME, u32::from),
     })
 }
 
@@ -143,8 +143,8 @@ fn yes_or_no(yes: bool) -> Asked {
 
 pub fn refused(refusal: &Refusal) -> Asked {
     Asked {
-        number: refusal.number as usize,
-        place: refusal.offset,
+        number: refusal.number,
+        place: refusal.offset.try_into().expect("no fault is so far in"),
         name: NO_NAME,
     }
 }
@@ -158,7 +158,7 @@ fn rule_and_name(answer: Asked) -> RuleAndName {
 
 fn numbered(answer: &Answer, record: &Record) -> RuleAndName {
     RuleAndName {
-        rule: answer.rule as usize,
+        rule: answer.rule,
         name: answer
             .name
             .as_ref()
@@ -166,10 +166,10 @@ fn numbered(answer: &Answer, record: &Record) -> RuleAndName {
     }
 }
 
-fn number_of(name: &str, record: &Record) -> usize {
-    record
-        .names
-        .iter()
-        .position(|known| known == name)
+fn number_of(name: &str, record: &Record) -> u32 {
+    (0..)
+        .zip(&record.names)
+        .find(|(_, known)| *known == name)
         .expect("the Rust is given no names but the table's")
+        .0
 }

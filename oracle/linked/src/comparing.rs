@@ -10,7 +10,7 @@ use crate::answers::{first, Answers};
 use crate::inputs::Input;
 use crate::lending::{self, Buffer};
 use crate::seeds::{turned_past_the_table, Seeds};
-use crate::{Asked, Library, Probed, Reading};
+use crate::{Asked, Library, Reading, Stretch, NO_STRETCH};
 
 const BY_THE_PLAIN: &str = "the plain second implementation";
 const BY_THE_RUST: &str = "the Rust";
@@ -47,7 +47,7 @@ impl<L: Library> Comparer<L> {
         let answers = Answers::of_the_library(&self.library, &input.bytes, &input.seeds);
         let list = reading.as_ref().map(lists::list).unwrap_or_default();
         let difference = self
-            .in_reading(input, &reading)
+            .in_a_name(input, &reading)
             .or_else(|| in_answers(&answers, &reading, &input.seeds))
             .or_else(|| self.past_the_table(input, &reading, &answers))
             .or_else(|| self.in_the_list(input, &reading, &list))
@@ -63,13 +63,12 @@ impl<L: Library> Comparer<L> {
         }
     }
 
-    fn in_reading(&self, input: &Input, reading: &Reading) -> Option<String> {
-        let said = self.library.read(&input.bytes);
-        unlike(BY_THE_PLAIN, "reading", said, plain_read(reading)).or_else(|| {
-            let said = self.library.name_length(&input.bytes, input.name);
-            let expected = plain_name_length(reading, input.name);
-            unlike(BY_THE_PLAIN, "the length of a name", said, expected)
-        })
+    fn in_a_name(&self, input: &Input, reading: &Reading) -> Option<String> {
+        let said = self.library.name(&input.bytes, input.name);
+        let text = plain_text(reading, input.name);
+        let expected = plain_stretch(text, input.name);
+        unlike(BY_THE_PLAIN, "where a name stands", said, expected)
+            .or_else(|| in_a_text(&input.bytes, said, text))
     }
 
     /// Of refused bytes there is no table that a bit could be past.
@@ -147,27 +146,25 @@ fn unlike<T: Debug + PartialEq>(
         .then(|| format!("{question}: the library says {said:?}, {by_whom} {expected:?}"))
 }
 
-fn plain_read(reading: &Reading) -> Probed {
-    match reading {
-        Ok(record) => Probed {
-            number: 0,
-            names: record.names.len(),
-            place: record.nodes.len(),
-        },
-        Err(refusal) => Probed {
-            number: refusal.number as usize,
-            names: 0,
-            place: refusal.offset,
-        },
-    }
+/// Nothing for an unknown number and for bytes that are turned away.
+fn plain_text(reading: &Reading, number: u8) -> Option<&str> {
+    let names = &reading.as_ref().ok()?.names;
+    names.get(usize::from(number)).map(String::as_str)
 }
 
-fn plain_name_length(reading: &Reading, number: u8) -> usize {
-    reading
-        .as_ref()
-        .ok()
-        .and_then(|record| record.names.get(usize::from(number)))
-        .map_or(0, String::len)
+/// After the format record of 2 bytes, a name record of 25 for each name before it, and its own kind.
+fn plain_stretch(text: Option<&str>, number: u8) -> Stretch {
+    text.map_or(NO_STRETCH, |text| Stretch {
+        at: 2 + 25 * usize::from(number) + 1,
+        len: text.len(),
+    })
+}
+
+/// The place is reckoned alike by both sides: the bytes that stand there show that it is the right one.
+fn in_a_text(bytes: &[u8], stretch: Stretch, text: Option<&str>) -> Option<String> {
+    let said = bytes[stretch.at..].get(..stretch.len);
+    let expected = Some(text.unwrap_or_default().as_bytes());
+    unlike(BY_THE_PLAIN, "the text of a name", said, expected)
 }
 
 #[cfg(test)]
@@ -198,6 +195,23 @@ mod tests {
         };
         assert!(in_a_part(&no_entry, &reading, &list).is_some());
         assert!(in_a_part(&right, &reading, &[]).is_some());
+    }
+
+    #[test]
+    fn a_stretch_that_holds_other_bytes_than_the_name() {
+        let bytes = record_in_full();
+        let [f, g] = [Stretch { at: 3, len: 1 }, Stretch { at: 28, len: 1 }];
+        assert_eq!(in_a_text(&bytes, f, Some("f")), None);
+        assert_eq!(in_a_text(&bytes, g, Some("g")), None);
+        assert_eq!(in_a_text(&bytes, NO_STRETCH, None), None);
+        assert!(in_a_text(&bytes, f, Some("g")).is_some());
+        assert!(in_a_text(&bytes, f, None).is_some());
+        assert!(in_a_text(&bytes, NO_STRETCH, Some("f")).is_some());
+        let past_the_end = Stretch {
+            at: bytes.len(),
+            len: 1,
+        };
+        assert!(in_a_text(&bytes, past_the_end, Some("f")).is_some());
     }
 
     #[test]

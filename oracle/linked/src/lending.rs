@@ -5,7 +5,7 @@ use plain::Refusal;
 use crate::answers::refused;
 use crate::{Asked, Library, NO_NAME};
 
-pub const NO_ROOM: usize = 50;
+pub const NO_ROOM: u32 = 50;
 /// Lent past the list, and watched behind what is lent.
 const SPARE: usize = 5;
 const BEHIND: usize = 3;
@@ -77,7 +77,7 @@ fn answer(listing: Listing, room: usize) -> Asked {
     match listing {
         Ok(list) => Asked {
             number: if list.len() <= room { 0 } else { NO_ROOM },
-            place: list.len(),
+            place: list.len() as u32,
             name: NO_NAME,
         },
         Err(refusal) => refused(refusal),

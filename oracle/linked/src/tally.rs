@@ -29,32 +29,32 @@ pub struct Tally {
 }
 
 /// How often each of document 01's numbers was met.
-struct Numbers([usize; NO_ROOM + 1]);
+struct Numbers([usize; NO_ROOM as usize + 1]);
 
 impl Default for Numbers {
     fn default() -> Numbers {
-        Numbers([0; NO_ROOM + 1])
+        Numbers([0; NO_ROOM as usize + 1])
     }
 }
 
 impl Numbers {
-    fn add(&mut self, number: usize) {
-        self.0[number] += 1;
+    fn add(&mut self, number: u32) {
+        self.0[number as usize] += 1;
     }
 }
 
 /// What is counted, which numbers it can have, and how often they were met.
 struct Counted<'a> {
     what: &'static str,
-    numbers: &'static [usize],
+    numbers: &'static [u32],
     met: &'a Numbers,
 }
 
 impl Counted<'_> {
-    fn counts(&self) -> impl Iterator<Item = (usize, usize)> + '_ {
+    fn counts(&self) -> impl Iterator<Item = (u32, usize)> + '_ {
         self.numbers
             .iter()
-            .map(|&number| (number, self.met.0[number]))
+            .map(|&number| (number, self.met.0[number as usize]))
     }
 
     fn line(&self) -> String {
@@ -82,7 +82,7 @@ impl Tally {
                 self.add_list(&met.list);
                 self.shapes.add(record, &met.list);
             }
-            Err(refusal) => self.refused.add(refusal.number as usize),
+            Err(refusal) => self.refused.add(refusal.number),
         }
     }
 
@@ -99,7 +99,7 @@ impl Tally {
     /// Every list but an empty one was asked for with too little room, too.
     fn add_list(&mut self, list: &[Entry]) {
         for &rule in LISTED {
-            if list.iter().any(|entry| entry.rule as usize == rule) {
+            if list.iter().any(|entry| entry.rule == rule) {
                 self.listed.add(rule);
             }
         }
@@ -146,7 +146,7 @@ impl Tally {
     }
 
     fn inputs(&self) -> usize {
-        let by_the_reader = &self.refused.0[..NO_ROOM];
+        let by_the_reader = &self.refused.0[..NO_ROOM as usize];
         self.accepted + by_the_reader.iter().sum::<usize>()
     }
 
@@ -165,14 +165,14 @@ impl Tally {
     }
 }
 
-fn counted<'a>(what: &'static str, numbers: &'static [usize], met: &'a Numbers) -> Counted<'a> {
+fn counted<'a>(what: &'static str, numbers: &'static [u32], met: &'a Numbers) -> Counted<'a> {
     Counted { what, numbers, met }
 }
 
 // 0 is "accepted", and the arithmetic test's "no".
-const REFUSALS: &[usize] = &[1, 2, 3, 4, 5, 6, 7, 8, 9, 10, 11, 12, 13, NO_ROOM];
-const SCOPING: &[usize] = &[0, 20, 21, 22, 23, 24, 25, 26, 27];
-const CLOSEDNESS: &[usize] = &[0, 28];
-const DEMANDS: &[usize] = &[0, 30, 31, 32];
-const ARITHMETIC: &[usize] = &[0, 40];
-const LISTED: &[usize] = &[20, 21, 22, 23, 24, 25, 26, 27, 28, 30, 31, 32];
+const REFUSALS: &[u32] = &[1, 2, 3, 4, 5, 6, 7, 8, 9, 10, 11, 12, 13, NO_ROOM];
+const SCOPING: &[u32] = &[0, 20, 21, 22, 23, 24, 25, 26, 27];
+const CLOSEDNESS: &[u32] = &[0, 28];
+const DEMANDS: &[u32] = &[0, 30, 31, 32];
+const ARITHMETIC: &[u32] = &[0, 40];
+const LISTED: &[u32] = &[20, 21, 22, 23, 24, 25, 26, 27, 28, 30, 31, 32];

@@ -1,6 +1,6 @@
 use linked::answers::{refused, Answers, NOTHING};
 use linked::seeds::SEEDS;
-use linked::{Asked, Library, Proved, NO_NAME};
+use linked::{Asked, Library, Proved, Stretch, NO_NAME, NO_STRETCH};
 use plain::cases::{all, Case};
 use plain::lists::{pack, Entry};
 use plain::read;
@@ -26,9 +26,9 @@ fn of_the_case(case: &Case) -> Answers<Asked> {
 
 fn asked(entry: &Entry) -> Asked {
     Asked {
-        number: entry.rule as usize,
-        place: usize::from(entry.node),
-        name: entry.name.map_or(NO_NAME, usize::from),
+        number: entry.rule,
+        place: u32::from(entry.node),
+        name: entry.name.map_or(NO_NAME, u32::from),
     }
 }
 
@@ -59,7 +59,7 @@ fn the_lists_of_the_cases() {
         let mut lent = vec![0; entries.len() + 1];
         let said = Proved.list(&case.bytes, &mut lent);
         let expected = Asked {
-            place: entries.len(),
+            place: entries.len() as u32,
             ..NOTHING
         };
         assert_eq!(said, expected, "{}", case.label);
@@ -86,7 +86,22 @@ fn every_cut_of_a_case_is_passed_up_as_it_is_refused() {
                 "{} cut to {length}",
                 case.label
             );
+            assert_eq!(Proved.name(cut, 0), NO_STRETCH);
         }
+    }
+}
+
+#[test]
+fn the_names_of_the_cases() {
+    for case in all().unwrap() {
+        let names = read(&case.bytes).unwrap().names;
+        let said: Vec<&[u8]> = (0..=u8::MAX)
+            .map(|number| Proved.name(&case.bytes, number))
+            .take_while(|&stretch| stretch != NO_STRETCH)
+            .map(|Stretch { at, len }| &case.bytes[at..at + len])
+            .collect();
+        let expected: Vec<&[u8]> = names.iter().map(String::as_bytes).collect();
+        assert_eq!(said, expected, "{}", case.label);
     }
 }
 
@@ -114,4 +129,14 @@ fn the_lowest_bit_of_a_seed_is_name_0() {
     assert_eq!(Proved.scoping(&bytes, 0), unbound);
     assert_eq!(Proved.scoping(&bytes, !1), unbound);
     assert_eq!(Proved.scoping(&bytes, 1), NOTHING);
+}
+
+#[test]
+fn the_last_name_of_a_full_table() {
+    let bytes = record_of_128_names();
+    let last = Stretch { at: 3178, len: 4 };
+    assert_eq!(&bytes[3178..3182], b"n127");
+    assert_eq!(Proved.name(&bytes, 127), last);
+    assert_eq!(Proved.name(&bytes, 128), NO_STRETCH);
+    assert_eq!(Proved.name(&bytes, 255), NO_STRETCH);
 }

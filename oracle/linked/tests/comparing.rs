@@ -4,7 +4,7 @@ use linked::comparing::Comparer;
 use linked::inputs::{any_input, Input};
 use linked::lending::NO_ROOM;
 use linked::seeds::{Seeds, SEEDS};
-use linked::Asked;
+use linked::{Asked, Stretch, NO_STRETCH};
 use plain::cases::all;
 use plain::random::Rng;
 use slips::{Question, Slip, NO_SLIP};
@@ -63,26 +63,66 @@ fn what_was_met_is_the_reading_the_answers_and_the_list() {
     assert_eq!(rules, [28, 31]);
 }
 
-#[test]
-fn a_wrong_reading() {
+fn assert_stretch_noticed(bytes: Vec<u8>, slip: &dyn Fn(Stretch) -> Stretch) {
     let slip = Slip {
-        reading: &|mut said| {
-            said.place += 1;
-            said
-        },
+        name: slip,
         ..NO_SLIP
     };
-    assert_noticed(record_in_full(), slip, "reading: ");
-    assert_noticed(cut_record(), slip, "reading: ");
+    assert_noticed(bytes, slip, "where a name stands: ");
+}
+
+fn one_byte_early(said: Stretch) -> Stretch {
+    Stretch {
+        at: said.at - 1,
+        ..said
+    }
+}
+
+fn one_byte_late(said: Stretch) -> Stretch {
+    Stretch {
+        at: said.at + 1,
+        ..said
+    }
 }
 
 #[test]
-fn a_wrong_length_of_a_name() {
-    let slip = Slip {
-        name_length: &|said| said + 1,
+fn a_name_at_a_wrong_place() {
+    assert_stretch_noticed(record_in_full(), &one_byte_early);
+    assert_stretch_noticed(record_in_full(), &one_byte_late);
+    let first_name = |said| Stretch { at: 3, ..said };
+    assert_stretch_noticed(record_in_full(), &first_name);
+}
+
+#[test]
+fn a_name_with_a_wrong_length() {
+    for len in [0, 2, 24] {
+        let slip = move |said| Stretch { len, ..said };
+        assert_stretch_noticed(record_in_full(), &slip);
+    }
+    assert_stretch_noticed(record_in_full(), &|_| NO_STRETCH);
+}
+
+/// Of bytes that are turned away, and of a number that no name has.
+#[test]
+fn an_empty_stretch_at_a_wrong_place() {
+    assert_stretch_noticed(cut_record(), &one_byte_late);
+    let at_the_name = |_| Stretch { at: 28, len: 0 };
+    assert_stretch_noticed(cut_record(), &at_the_name);
+    let at_the_name = Slip {
+        name: &at_the_name,
         ..NO_SLIP
     };
-    assert_noticed(record_in_full(), slip, "the length of a name: ");
+    let unknown = Input {
+        name: 2,
+        ..input(record_in_full(), [0; SEEDS])
+    };
+    assert_noticed_in(&unknown, at_the_name, "where a name stands: ");
+}
+
+#[test]
+fn a_name_where_there_is_none() {
+    let the_first = |_| Stretch { at: 3, len: 1 };
+    assert_stretch_noticed(cut_record(), &the_first);
 }
 
 #[test]
@@ -174,7 +214,7 @@ fn bits_past_the_table_that_have_an_effect() {
 
 /// A slip of the list where the right answer has this number and the buffer this room.
 fn at(
-    number: usize,
+    number: u32,
     room: usize,
     slip: fn(&mut Asked, &mut [u32]),
 ) -> impl Fn(Asked, &mut [u32]) -> Asked {

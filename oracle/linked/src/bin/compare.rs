@@ -42,7 +42,7 @@ fn compare(count: usize, seed: u64) -> Result<Tally, String> {
 }
 
 fn report(count: usize, seed: u64, tally: &Tally) -> ExitCode {
-    println!("{count} inputs, seed {seed}: the readings, the answers and the lists agree");
+    println!("{count} inputs, seed {seed}: the names, the answers and the lists agree");
     for line in tally.lines() {
         println!("{line}");
     }

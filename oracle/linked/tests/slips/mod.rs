@@ -3,17 +3,16 @@
 use linked::answers::{refused, Answers};
 use linked::lending::NO_ROOM;
 use linked::seeds::SEEDS;
-use linked::{Asked, Library, Probed, NO_NAME};
+use linked::{Asked, Library, Stretch, NO_NAME, NO_STRETCH};
 use plain::lists::{list, pack};
 use plain::{read, Record};
 
 /// What is made of the right answers before they are given.
 #[derive(Clone, Copy)]
 pub struct Slip<'a> {
-    pub reading: &'a dyn Fn(Probed) -> Probed,
-    pub name_length: &'a dyn Fn(usize) -> usize,
     pub answer: &'a dyn Fn(Question, Asked) -> Asked,
     pub list: &'a dyn Fn(Asked, &mut [u32]) -> Asked,
+    pub name: &'a dyn Fn(Stretch) -> Stretch,
 }
 
 #[derive(Debug, Clone, Copy, PartialEq)]
@@ -25,30 +24,12 @@ pub enum Question {
 }
 
 pub const NO_SLIP: Slip = Slip {
-    reading: &|said| said,
-    name_length: &|said| said,
     answer: &|_, said| said,
     list: &|said, _| said,
+    name: &|said| said,
 };
 
 impl Library for Slip<'_> {
-    fn read(&self, bytes: &[u8]) -> Probed {
-        let [number, names, place] = match read(bytes) {
-            Ok(record) => [0, record.names.len(), record.nodes.len()],
-            Err(refusal) => [refusal.number as usize, 0, refusal.offset],
-        };
-        (self.reading)(Probed {
-            number,
-            names,
-            place,
-        })
-    }
-
-    fn name_length(&self, bytes: &[u8], number: u8) -> usize {
-        let names = read(bytes).map_or(Vec::new(), |record| record.names);
-        (self.name_length)(names.get(usize::from(number)).map_or(0, String::len))
-    }
-
     fn scoping(&self, bytes: &[u8], seed: u128) -> Asked {
         let [said, ..] = Answers::of_the_plain(&read(bytes), &[seed; SEEDS]).scoping;
         (self.answer)(Question::Scoping { seed }, said)
@@ -73,6 +54,15 @@ impl Library for Slip<'_> {
         };
         (self.list)(said, lent)
     }
+
+    fn name(&self, bytes: &[u8], number: u8) -> Stretch {
+        let names = read(bytes).map_or(Vec::new(), |record| record.names);
+        let number = usize::from(number);
+        (self.name)(names.get(number).map_or(NO_STRETCH, |name| Stretch {
+            at: 3 + 25 * number,
+            len: name.len(),
+        }))
+    }
 }
 
 fn without_a_seed(bytes: &[u8]) -> Answers<Asked> {
@@ -88,7 +78,7 @@ fn filled(lent: &mut [u32], record: &Record) -> Asked {
     }
     Asked {
         number,
-        place: entries.len(),
+        place: entries.len() as u32,
         name: NO_NAME,
     }
 }
