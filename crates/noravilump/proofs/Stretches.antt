@@ -1,12 +1,12 @@
 -- Where a name stands in the bytes: a name of any bytes is the stretch that the definitions give it, and the stretch is empty exactly where the name is.
 -- Assumes nothing.
-use mathlib.Core.Path.{_≡_, refl, sym, ap, _∙_}
+use mathlib.Core.Path.{_≡_, refl, sym, ap}
 use mathlib.Core.Bool.{Bool, true, false}
 use mathlib.Core.List.{List, [], _∷_}
 use Prim.Native.Nat.{ℕ, zero, suc, _+_, _*_, _<_}
 use native.Mathlib.Omega.{arith}
 use lib.Dec.{eqb, ltb}
-use lib.ListN.{length, take, drop, getD, List·getD-eq-default}
+use lib.ListN.{length, take, drop, List·getD-eq-default}
 use borrow.Author.Tests.{ltb-true, ltb-false}
 use Rattle.paper.specs.Record.{pick, name-bytes}
 use Rattle.paper.specs.TurnedAway.{Contents, Outcome, refused, accepted, read}

@@ -26,6 +26,8 @@ pub struct Comparer<L> {
 /// What an input turned out to be.
 pub struct Met {
     pub reading: Reading,
+    /// Whether the number that was looked up is a name's.
+    pub named: bool,
     pub answers: Answers<Asked>,
     pub list: Vec<Entry>,
 }
@@ -56,6 +58,7 @@ impl<L: Library> Comparer<L> {
         match difference {
             Some(difference) => Err(difference),
             None => Ok(Met {
+                named: plain_text(&reading, input.name).is_some(),
                 reading,
                 answers,
                 list,

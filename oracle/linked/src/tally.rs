@@ -23,6 +23,7 @@ pub struct Tally {
     demands: Numbers,
     arithmetic: Numbers,
     listed: Numbers,
+    named: usize,
     empty: usize,
     longest: usize,
     shapes: Shapes,
@@ -78,6 +79,7 @@ impl Tally {
         match &met.reading {
             Ok(record) => {
                 self.accepted += 1;
+                self.named += usize::from(met.named);
                 self.add_answers(&met.answers);
                 self.add_list(&met.list);
                 self.shapes.add(record, &met.list);
@@ -118,8 +120,8 @@ impl Tally {
         ];
         lines.extend(self.answers().iter().map(Counted::line));
         lines.push(format!(
-            "scoping told apart by seeds: {}; lists: {} empty, the longest has {} entries",
-            self.told_apart_by_seeds, self.empty, self.longest
+            "scoping told apart by seeds: {}; names found: {}; lists: {} empty, the longest has {} entries",
+            self.told_apart_by_seeds, self.named, self.empty, self.longest
         ));
         lines.extend(self.shapes.lines());
         lines
@@ -130,6 +132,7 @@ impl Tally {
         let most = self.accepted / SELDOM;
         let others = [
             ("scoping told apart by seeds", self.told_apart_by_seeds),
+            ("name found", self.named),
             ("empty list", self.empty),
         ];
         let mut seldom: Vec<String> = self

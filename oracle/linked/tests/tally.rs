@@ -14,10 +14,10 @@ fn an_empty_run_has_met_nothing() {
     assert_eq!(seldom[13..16], ["refusal 50", "scoping 0", "scoping 20"]);
     assert_eq!(seldom[31..33], ["list with 20", "list with 21"]);
     assert_eq!(
-        seldom[43..45],
-        ["scoping told apart by seeds", "empty list"]
+        seldom[43..46],
+        ["scoping told apart by seeds", "name found", "empty list"]
     );
-    assert_eq!(seldom[45], "kind 10");
+    assert_eq!(seldom[46], "kind 10");
 }
 
 /// The cases, with every name in scope for all seeds but the first, and bytes that are refused.
@@ -50,7 +50,7 @@ fn the_cases_and_one_refusal_are_counted() {
             "demands: 0 12, 30 1, 31 7, 32 1",
             "arithmetic: 0 20, 40 1",
             "list with: 20 0, 21 2, 22 1, 23 5, 24 3, 25 1, 26 3, 27 4, 28 4, 30 1, 31 8, 32 1",
-            "scoping told apart by seeds: 0; lists: 4 empty, the longest has 4 entries",
+            "scoping told apart by seeds: 0; names found: 21; lists: 4 empty, the longest has 4 entries",
         ]
     );
 }
