@@ -1,0 +1,2 @@
+-- Which number each rule's words belong to.
+pub mod Numbered

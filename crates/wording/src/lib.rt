@@ -1,0 +1,4 @@
+// What a person is told of an entry and of a refusal.
+pub mod refusals;
+pub mod rules;
+pub mod say;
