@@ -1,117 +1,101 @@
 // A node on a line: its kind by document 01's word, with the names and the numbers that stand in it.
 use crate::find::node;
-use crate::operators;
-use paper::NameNo;
+use crate::kinds::Detail;
+use crate::kinds::detail;
+use crate::kinds::kind;
 use paper::Node;
 use paper::NodeNo;
 use paper::Slot;
 use record::access::name;
+use wording::lines::decimal;
+use wording::lines::hexadecimal;
+use wording::lines::say;
 use wording::say::number;
 use wording::say::text;
 
-fn numbered(word: &[u8], n: usize) {
-    text(word);
-    number(n);
+fn kind_word(n: Node) {
+    let table = b"\
+10 And\n\
+11 Or\n\
+12 Not\n\
+13 Formerly within \n\
+14 Previous within \n\
+15 Since within \n\
+16 Exists \n\
+17 Comparison \n\
+18 Predicate \n\
+19 Refine\n\
+1A Tp \n\
+1B Call \n\
+1C SigilRef \n\
+20 Var \n\
+21 Wildcard\n\
+22 Literal \n\
+23 ScopeField \n\
+24 ContextField \n\
+25 ParamRef ?\n\
+26 BinderRef $\n\
+27 Array\n\
+28 Arith \n\
+29 Sum of \n\
+2A Count\n\
+2B aggregate Call \n\
+30 list end\n\
+31 argument \n\
+32 item\n\
+33 for \n";
+    say(table, hexadecimal(kind(n)), b"");
 }
 
-fn within(word: &[u8], window: u16) {
-    text(word);
-    numbered(b" within ", window as usize);
+// Document 01 says that 0 is equality, and request W-207 that 1 is 'less' and 2 'at most'; of 3 to 5 nothing is said.
+fn comparing(op: u8) {
+    say(b"00 ==\n01 <\n02 <=\n03 op 3\n04 op 4\n05 op 5\n", decimal(op), b"");
 }
 
-fn named(bytes: &[u8], x: NameNo) {
-    text(name(bytes, x));
+// In the order of the Rust's `ArithOp` (oracle/dogwood, ast.rs).
+fn computing(op: u8) {
+    say(b"00 +\n01 -\n02 *\n", decimal(op), b"");
 }
 
-// A sigil as the Rust's language writes it.
+// A name, or a sigil as the Rust's language writes it.
 fn slot(bytes: &[u8], s: Slot) {
     match s {
-        Slot::Name(x) => named(bytes, x),
-        Slot::Param(k) => numbered(b"?", k as usize),
-        Slot::Binder(k) => numbered(b"$", k as usize),
+        Slot::Name(x) => text(name(bytes, x)),
+        Slot::Param(k) => {
+            text(b"?");
+            number(k as usize);
+        }
+        Slot::Binder(k) => {
+            text(b"$");
+            number(k as usize);
+        }
     }
 }
 
-fn slotted(bytes: &[u8], word: &[u8], s: Slot) {
-    text(word);
-    slot(bytes, s);
-}
-
-// A condition without what is below it.
-fn condition(bytes: &[u8], n: Node) {
-    match n {
-        Node::And(_, _) => text(b"And"),
-        Node::Or(_, _) => text(b"Or"),
-        Node::Not(_) => text(b"Not"),
-        Node::Formerly(_, window) => within(b"Formerly", window),
-        Node::Previous(_, window) => within(b"Previous", window),
-        Node::Since(_, _, window) => within(b"Since", window),
-        Node::Exists(s, _, _) => slotted(bytes, b"Exists ", s),
-        Node::Comparison(op, _, _) => {
-            text(b"Comparison ");
-            operators::comparison(op);
-        }
-        Node::Predicate(action, _) => numbered(b"Predicate ", action as usize),
-        Node::Refine(_, _) => text(b"Refine"),
-        Node::Tp(s) => slotted(bytes, b"Tp ", s),
-        Node::Call(symbol) => numbered(b"Call ", symbol as usize),
-        Node::SigilRef(symbol) => numbered(b"SigilRef ", symbol as usize),
-        _ => term(bytes, n),
-    }
-}
-
-// A term or a cell without what is below it.
-fn term(bytes: &[u8], n: Node) {
-    match n {
-        Node::Var(x) => {
-            text(b"Var ");
-            named(bytes, x);
-        }
-        Node::Array(_) => text(b"Array"),
-        Node::Arith(op, _, _) => {
-            text(b"Arith ");
-            operators::arithmetic(op);
-        }
-        Node::Sum(s, _, _) => slotted(bytes, b"Sum of ", s),
-        Node::Count(_, _) => text(b"Count"),
-        Node::BinderCell(s, _, _) => slotted(bytes, b"for ", s),
-        Node::ArgumentCell(field, _, _) => numbered(b"argument ", field as usize),
-        _ => leaf(n),
-    }
-}
-
-fn leaf(n: Node) {
-    match n {
-        Node::Wildcard => text(b"Wildcard"),
-        Node::Literal(symbol) => numbered(b"Literal ", symbol as usize),
-        Node::ScopeField(symbol) => numbered(b"ScopeField ", symbol as usize),
-        Node::ContextField(symbol) => numbered(b"ContextField ", symbol as usize),
-        Node::ParamRef(k) => numbered(b"ParamRef ?", k as usize),
-        Node::BinderRef(k) => numbered(b"BinderRef $", k as usize),
-        Node::AggregateCall(symbol) => numbered(b"aggregate Call ", symbol as usize),
-        Node::ItemCell(_, _) => text(b"item"),
-        _ => text(b"list end"),
+fn say_detail(bytes: &[u8], d: Detail) {
+    match d {
+        Detail::Nothing => {}
+        Detail::Number(n) => number(n as usize),
+        Detail::Byte(n) => number(n as usize),
+        Detail::Bound(s) => slot(bytes, s),
+        Detail::Compares(op) => comparing(op),
+        Detail::Computes(op) => computing(op),
     }
 }
 
 // A node without what is below it.
 pub fn alone(bytes: &[u8], n: Node) {
-    condition(bytes, n);
+    kind_word(n);
+    say_detail(bytes, detail(n));
 }
 
 // A side of a comparison in a few words: a name stands for itself.
 fn side(bytes: &[u8], i: NodeNo) {
     let n = node(bytes, i);
     match n {
-        Node::Var(x) => named(bytes, x),
+        Node::Var(x) => text(name(bytes, x)),
         Node::Wildcard => text(b"*"),
-        Node::Array(_) => text(b"[..]"),
-        Node::Arith(op, _, _) => {
-            text(b"(.. ");
-            operators::arithmetic(op);
-            text(b" ..)");
-        }
-        _ => term(bytes, n),
+        _ => alone(bytes, n),
     }
 }
 
@@ -123,7 +107,7 @@ pub fn described(bytes: &[u8], i: NodeNo) {
             text(b"Comparison ");
             side(bytes, left);
             text(b" ");
-            operators::comparison(op);
+            comparing(op);
             text(b" ");
             side(bytes, right);
         }

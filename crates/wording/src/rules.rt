@@ -1,142 +1,57 @@
-// What each rule of the list says to the person who writes the condition: what is wrong, why that matters, and how to mend it.
-use crate::say::around;
-use crate::say::around_both;
-use crate::say::text;
-ghost use Rattle.wording.specs.Numbered.{Numbered};
-
-// The rules that a list can name, each with words of its own.
-pub enum Rule {
-    AggregateInside,
-    ArithmeticInside,
-    ReservedWord,
-    ExistsUntied,
-    SumOutside,
-    AggregateUnbound,
-    BinderUnused,
-    BinderUntied,
-    Unbound,
-    EqualityUntied,
-    TestUntied,
-    SinceUntied,
-    Unknown,
-}
-
-pub fn rule_of(number: u8) -> Rule
-    ensures { λ r. ⌜ Numbered r number ⌝ }
-{
-    match number {
-        20 => Rule::AggregateInside,
-        21 => Rule::ArithmeticInside,
-        22 => Rule::ReservedWord,
-        23 => Rule::ExistsUntied,
-        24 => Rule::SumOutside,
-        25 => Rule::AggregateUnbound,
-        26 => Rule::BinderUnused,
-        27 => Rule::BinderUntied,
-        28 => Rule::Unbound,
-        30 => Rule::EqualityUntied,
-        31 => Rule::TestUntied,
-        32 => Rule::SinceUntied,
-        _ => Rule::Unknown,
-    }
-}
+// What each rule of the list says to the person who writes the condition. To tie a name is what document 01 calls to restrict it: an event, a tp or an
+// equality gives it a value.
+use crate::lines::decimal;
+use crate::lines::say;
 
 // What is wrong, in a few words: a line of the tree has to hold them.
-pub fn wrong(rule: Rule, name: &[u8]) {
-    match rule {
-        Rule::AggregateInside => text(b"a sum or count may not stand here"),
-        Rule::ArithmeticInside => text(b"arithmetic may not stand here"),
-        Rule::ReservedWord => around(b"", name, b" is a reserved word"),
-        Rule::ExistsUntied => around(b"nothing in this `exists` ties ", name, b""),
-        Rule::SumOutside => around(b"", name, b" is not in the sum's own `for` list"),
-        Rule::AggregateUnbound => around(b"", name, b" is used in here, and nothing binds it"),
-        Rule::BinderUnused => around(b"the `where` part does not use ", name, b""),
-        Rule::BinderUntied => around(b"nothing in the `where` part ties ", name, b""),
-        Rule::Unbound => around(b"nothing binds ", name, b""),
-        Rule::EqualityUntied => around(b"nothing before this equality ties ", name, b""),
-        Rule::TestUntied => around(b"nothing before this ties ", name, b""),
-        Rule::SinceUntied => around(b"nothing ties ", name, b" for the left of this `since`"),
-        Rule::Unknown => text(b"this rule is not met"),
-    }
+pub fn wrong(rule: u8, name: &[u8]) {
+    let table = b"\
+20 a sum or count may not stand here\n\
+21 arithmetic may not stand here\n\
+22 @ is a reserved word\n\
+23 nothing in this `exists` ties @\n\
+24 @ is not in the sum's own `for` list\n\
+25 @ is used in here, and nothing binds it\n\
+26 the `where` part does not use @\n\
+27 nothing in the `where` part ties @\n\
+28 nothing binds @\n\
+30 nothing before this equality ties @\n\
+31 nothing before this ties @\n\
+32 nothing ties @ for the left of this `since`\n";
+    say(table, decimal(rule), name);
 }
 
 // Why that matters, as the end of the sentence.
-pub fn why(rule: Rule, name: &[u8]) {
-    match rule {
-        Rule::AggregateInside => text(b"it can only be a side of a comparison"),
-        Rule::ArithmeticInside => text(b"it can only be a side of a comparison"),
-        Rule::ReservedWord => text(b"a rule cannot bind it to something else"),
-        Rule::ExistsUntied => around(b"no event or value says which ", name, b" to try"),
-        Rule::SumOutside => text(b"only a name of that list can be summed"),
-        Rule::AggregateUnbound => around(
-            b"no `for` list and no `exists` around it has ",
-            name,
-            b"",
-        ),
-        Rule::BinderUnused => text(b"a name of the `for` list must be used there"),
-        Rule::BinderUntied => around(b"no event or value says which ", name, b" to go through"),
-        Rule::Unbound => around(b"the rule does not say which ", name, b" is meant"),
-        Rule::EqualityUntied => around(b"its other side has no value until ", name, b" has one"),
-        Rule::TestUntied => around(b"only a ", name, b" that has a value can be tested"),
-        Rule::SinceUntied => text(b"neither its right side nor a part before it does"),
-        Rule::Unknown => text(b"it is newer than this program"),
-    }
+pub fn why(rule: u8, name: &[u8]) {
+    let table = b"\
+20 it can only be a side of a comparison\n\
+21 it can only be a side of a comparison\n\
+22 a rule cannot bind it to something else\n\
+23 no event or value says which @ to try\n\
+24 only a name of that list can be summed\n\
+25 no `for` list and no `exists` around it has @\n\
+26 a name of the `for` list must be used there\n\
+27 no event or value says which @ to go through\n\
+28 the rule does not say which @ is meant\n\
+30 its other side has no value until @ has one\n\
+31 only a @ that has a value can be tested\n\
+32 neither its right side nor a part before it does\n";
+    say(table, decimal(rule), name);
 }
 
-pub fn mend(rule: Rule, name: &[u8]) {
-    match rule {
-        Rule::AggregateInside => text(b"say `n == count ..` in a comparison, and use n here."),
-        Rule::ArithmeticInside => text(b"say `n == a + b` in a comparison, and use n here."),
-        Rule::ReservedWord => text(b"choose another name, here and wherever the rule uses it."),
-        Rule::ExistsUntied => tie_inside(b"use ", name),
-        Rule::SumOutside => around(
-            b"add ",
-            name,
-            b" to the `for` list, or sum a name that is in it.",
-        ),
-        Rule::AggregateUnbound => around_both(
-            b"add ",
-            name,
-            b" to the `for` list, or put `exists ",
-            b"` around the comparison.",
-        ),
-        Rule::BinderUnused => around(
-            b"use ",
-            name,
-            b" in the `where` part, or take it out of the `for` list.",
-        ),
-        Rule::BinderUntied => tie_inside(b"in the `where` part, use ", name),
-        Rule::Unbound => around(
-            b"put `exists ",
-            name,
-            b"` around the rule, or use a name that is bound.",
-        ),
-        Rule::EqualityUntied => tie_before(name),
-        Rule::TestUntied => tie_before(name),
-        Rule::SinceUntied => around(
-            b"use ",
-            name,
-            b" in an event on its right side, or in one before it.",
-        ),
-        Rule::Unknown => text(b"check the rule with a newer program."),
-    }
-}
-
-fn tie_inside(start: &[u8], name: &[u8]) {
-    text(start);
-    around_both(
-        b"",
-        name,
-        b" in an event or in ",
-        b" == value, not under `not` or `or`.",
-    );
-}
-
-fn tie_before(name: &[u8]) {
-    around_both(
-        b"to its left, joined by `and`, put an event with ",
-        name,
-        b", or ",
-        b" == value.",
-    );
+pub fn mend(rule: u8, name: &[u8]) {
+    let table = b"\
+20 say `n == count ..` in a comparison, and use n here.\n\
+21 say `n == a + b` in a comparison, and use n here.\n\
+22 choose another name, here and wherever the rule uses it.\n\
+23 use @ in an event or in @ == value inside it, not under `not` or `or`.\n\
+24 add @ to the `for` list, or sum a name that is in it.\n\
+25 add @ to the `for` list, or put `exists @` around the comparison.\n\
+26 use @ in the `where` part, or take it out of the `for` list.\n\
+27 use @ in an event or in @ == value there, not under `not` or `or`.\n\
+28 put `exists @` around the rule, or use a name that is bound.\n\
+30 to its left, joined by `and`, put an event with @, or @ == value.\n\
+31 to its left, joined by `and`, put an event with @, or @ == value.\n\
+32 use @ in an event on its right side, or in one before it.\n";
+    say(table, decimal(rule), name);
 }

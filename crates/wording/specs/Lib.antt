@@ -1,2 +1,0 @@
--- Which number each rule's words belong to.
-pub mod Numbered
