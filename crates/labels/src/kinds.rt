@@ -47,7 +47,7 @@ pub enum Detail {
 }
 
 // What stands in the node itself.
-pub fn detail(n: Node) -> Detail {
+pub fn detail_of(n: Node) -> Detail {
     match n {
         Node::Formerly(_, w) | Node::Previous(_, w) | Node::Since(_, _, w) => Detail::Number(w),
         Node::Predicate(s, _)

@@ -1,7 +1,7 @@
 // A node on a line: its kind by document 01's word, with the names and the numbers that stand in it.
 use crate::find::node;
 use crate::kinds::Detail;
-use crate::kinds::detail;
+use crate::kinds::detail_of;
 use crate::kinds::kind;
 use paper::Node;
 use paper::NodeNo;
@@ -49,7 +49,11 @@ fn kind_word(n: Node) {
 
 // Document 01 says that 0 is equality, and request W-207 that 1 is 'less' and 2 'at most'; of 3 to 5 nothing is said.
 fn comparing(op: u8) {
-    say(b"00 ==\n01 <\n02 <=\n03 op 3\n04 op 4\n05 op 5\n", decimal(op), b"");
+    say(
+        b"00 ==\n01 <\n02 <=\n03 op 3\n04 op 4\n05 op 5\n",
+        decimal(op),
+        b"",
+    );
 }
 
 // In the order of the Rust's `ArithOp` (oracle/dogwood, ast.rs).
@@ -86,7 +90,7 @@ fn say_detail(bytes: &[u8], d: Detail) {
 // A node without what is below it.
 pub fn alone(bytes: &[u8], n: Node) {
     kind_word(n);
-    say_detail(bytes, detail(n));
+    say_detail(bytes, detail_of(n));
 }
 
 // A side of a comparison in a few words: a name stands for itself.
