@@ -6,6 +6,7 @@ use crate::kinds::kind;
 use paper::Node;
 use paper::NodeNo;
 use paper::Slot;
+use paper::Subject;
 use record::access::name;
 use wording::lines::decimal;
 use wording::lines::hexadecimal;
@@ -116,5 +117,13 @@ pub fn described(bytes: &[u8], i: NodeNo) {
             side(bytes, right);
         }
         _ => alone(bytes, n),
+    }
+}
+
+// The name that an entry is about, or nothing.
+pub fn about(bytes: &[u8], s: Subject) -> &[u8] {
+    match s {
+        Subject::Name(x) => name(bytes, x),
+        Subject::NoName => &bytes[..0],
     }
 }
