@@ -53,30 +53,22 @@ fn complain_of(i: usize, error: i32) {
     );
 }
 
-// A loop has to end: each turn fills more of the buffer.
-fn read_all(fd: i32, buffer: &mut [u8]) -> Input {
-    let mut at = 0;
-    while at < buffer.len() {
-        let got = libc::read(fd, &mut buffer[at..]);
-        if got < 0 {
-            return Input::Failed;
-        }
-        let n = io::count(got, &buffer[at..]);
-        if n == 0 {
-            return Input::Bytes(at);
-        }
-        at = at + n;
-    }
-    Input::TooLarge
+// A read that failed and the end of the input look alike to `read_full`. Another read tells them apart: at the end it brings nothing.
+fn is_at_end(fd: i32) -> bool {
+    let mut one = [0u8; 1];
+    libc::read(fd, &mut one) == 0
 }
 
 fn read_from(file: usize, fd: i32, buffer: &mut [u8; 65536]) -> Input {
-    let got = read_all(fd, buffer);
-    let error = os::errno();
-    if let Input::Failed = got {
-        complain_of(file, error);
+    let count = io::read_full(fd, buffer);
+    if 65536 <= count {
+        return Input::TooLarge;
     }
-    got
+    if is_at_end(fd) {
+        return Input::Bytes(count);
+    }
+    complain_of(file, os::errno());
+    Input::Failed
 }
 
 fn open(file: usize) -> i32 {

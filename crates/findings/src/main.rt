@@ -10,17 +10,19 @@ use input::Input;
 use paper::Listing;
 use questions::list;
 
-// As long as a list can be: 128 names at each of the places where a rule can stand (docs/THEOREMS.md). It takes one of the stack's eight megabytes.
-const ROOM: usize = 262272;
-
+// A list has at most 262,272 entries (docs/THEOREMS.md), so there is always room. They take one megabyte of the stack, which has eight.
 fn answer(record: &[u8], mode: Mode) {
-    let mut entries = [0u32; ROOM];
+    let mut entries = [0u32; 262272];
     let l = list(record, &mut entries);
     match l {
-        Listing::Listed(count) => show::listed(record, show::first(&entries, count), mode),
+        Listing::Listed(count) => show::listed(record, &entries, count, mode),
         Listing::NoRoom(needed) => show::no_room(needed),
         Listing::Refused { number, offset } => show::refused(record, number, offset, mode),
     }
+}
+
+fn answer_to(bytes: &[u8; 65536], count: usize, mode: Mode) {
+    answer(input::part(bytes, count), mode);
 }
 
 fn on_input(asked: Asked) {
@@ -33,7 +35,7 @@ fn on_input(asked: Asked) {
             file,
             b"this is larger than any record: one has 6258 bytes at most. Check that it is the right file.",
         ),
-        Input::Bytes(count) => answer(input::part(&bytes, count), mode),
+        Input::Bytes(count) => answer_to(&bytes, count, mode),
     }
 }
 

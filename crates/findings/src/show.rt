@@ -15,17 +15,21 @@ use wording::say::number;
 use wording::say::text;
 use writes::unpack;
 
-pub fn first(entries: &[u32], n: usize) -> &[u32] {
+fn first(entries: &[u32], n: usize) -> &[u32] {
     if entries.len() < n {
         return entries;
     }
     &entries[..n]
 }
 
+fn number_line(entry: u32) {
+    number(entry as usize);
+    text(b"\n");
+}
+
 fn numbers(entries: &[u32]) {
     for k in 0..entries.len() {
-        number(entries[k] as usize);
-        text(b"\n");
+        number_line(entries[k]);
     }
 }
 
@@ -88,7 +92,7 @@ fn verdict(record: &[u8], count: usize) {
     text(b"\n");
 }
 
-pub fn listed(record: &[u8], entries: &[u32], mode: Mode) {
+fn shown(record: &[u8], entries: &[u32], mode: Mode) {
     match mode {
         Mode::Numbers => numbers(entries),
         Mode::Tree => {
@@ -100,6 +104,11 @@ pub fn listed(record: &[u8], entries: &[u32], mode: Mode) {
             verdict(record, entries.len());
         }
     }
+}
+
+// The first entries of the buffer are the list.
+pub fn listed(record: &[u8], entries: &[u32; 262272], count: usize, mode: Mode) {
+    shown(record, first(entries, count), mode);
 }
 
 pub fn no_room(needed: usize) {
