@@ -17,7 +17,7 @@ pub fn wrong(rule: u8, name: &[u8]) {
 28 nothing binds @\n\
 30 nothing before this equality ties @\n\
 31 nothing before this ties @\n\
-32 nothing ties @ for the left of this `since`\n";
+32 nothing ties @ left of this `since`\n";
     say(table, decimal(rule), name);
 }
 
@@ -29,13 +29,13 @@ pub fn why(rule: u8, name: &[u8]) {
 22 a rule cannot bind it to something else\n\
 23 no event or value says which @ to try\n\
 24 only a name of that list can be summed\n\
-25 no `for` list and no `exists` around it has @\n\
+25 no `for` list and no `exists` has @\n\
 26 a name of the `for` list must be used there\n\
-27 no event or value says which @ to go through\n\
+27 no event or value says which @ to take\n\
 28 the rule does not say which @ is meant\n\
-30 its other side has no value until @ has one\n\
+30 its other side needs @ first\n\
 31 only a @ that has a value can be tested\n\
-32 neither its right side nor a part before it does\n";
+32 no part before it, nor its right side\n";
     say(table, decimal(rule), name);
 }
 
