@@ -34,7 +34,7 @@ pub fn why(rule: u8, name: &[u8]) {
 27 no event or value says which @ to take\n\
 28 the rule does not say which @ is meant\n\
 30 its other side needs @ first\n\
-31 only a @ that has a value can be tested\n\
+31 @ has no value here yet\n\
 32 no part before it, nor its right side\n";
     say(table, decimal(rule), name);
 }
