@@ -1,7 +1,7 @@
 // The lines of the tree: a node's number, and then, by its depth, what it is.
 use crate::shape::Role;
-use labels::words::about;
-use labels::words::alone;
+use labels::text::about;
+use labels::text::alone;
 use paper::Node;
 use paper::NodeNo;
 use wording::rules::wrong;

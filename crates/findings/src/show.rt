@@ -1,8 +1,8 @@
 // What the program prints of a record.
 use crate::asked::Mode;
 use drawing::tree;
-use labels::words::about;
-use labels::words::described;
+use labels::text::about;
+use labels::text::described;
 use paper::Arithmetic;
 use paper::NodeNo;
 use paper::Verdict;
@@ -153,9 +153,9 @@ Reads the record of one rule from FILE, or from standard input where no file is\
 named. Says what is wrong with the rule, where, and how to mend it. The last\n\
 line is the number of findings, or `accepted`.\n\
 \n\
-  --numbers   each finding as document 01's number, one to a line\n\
-  --tree      the rule as a tree, each finding below the node that it is about\n\
-  --help      this text\n\
+\x20\x20--numbers   each finding as document 01's number, one to a line\n\
+\x20\x20--tree      the rule as a tree, each finding below the node that it is about\n\
+\x20\x20--help      this text\n\
 \n\
 To tie a name is to give it a value: by an event that has it as an argument, by\n\
 tp, or by an equality. Numbers of actions, fields and literals are those of the\n\
