@@ -1,8 +1,8 @@
 // What the reader and the list say, as lines of text.
-use questions::list;
 use paper::Listing;
 use paper::NameNo;
 use paper::Verdict;
+use questions::list;
 use record::access::name;
 use record::reader::read;
 
