@@ -1,3 +1,3 @@
-//! What the gate keeps of the Rust's answers: the stored list, and the example records.
+//! What is kept of the answers of the Rust.
 
 pub mod stored;

@@ -1,6 +1,7 @@
 //! A sample of the Rust's answers, which the program `oracle_cases` replays on the proved library with no Rust at hand.
 
 use std::collections::{BTreeMap, BTreeSet};
+use std::iter::repeat_with;
 use std::path::PathBuf;
 
 use plain::answers::{arithmetic, closedness, demands, scoping, Answer};
@@ -25,6 +26,7 @@ const FIRST_WORD: u8 = 64;
 const MOST_WIDE_BYTES: usize = 3500;
 /// Each answer to each question is met so many times at least, or the list shows too little.
 const LEAST_MET: usize = 5;
+const DRAWS_FOR_EACH: usize = 1000;
 
 pub const QUESTIONS: [&str; 5] = [
     "scoping",
@@ -109,18 +111,15 @@ fn numbered(answer: &Answer, record: &Record) -> Said {
     }
 }
 
-/// So many accepted records, none twice, small ones mostly.
+/// So many accepted records, none twice, small ones mostly. There are fewer where nothing new is drawn for long.
 pub fn chosen(count: usize, seed: u64) -> Vec<Case> {
     let mut rng = Rng::new(seed);
     let mut choice = Choice::default();
-    let mut cases = Vec::new();
-    while cases.len() < count {
-        let case = any_case(&mut rng);
-        if choice.takes(&case) {
-            cases.push(case);
-        }
-    }
-    cases
+    repeat_with(|| any_case(&mut rng))
+        .take(DRAWS_FOR_EACH * count)
+        .filter(|case| choice.takes(case))
+        .take(count)
+        .collect()
 }
 
 /// What is in the list so far.
