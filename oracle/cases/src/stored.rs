@@ -5,6 +5,7 @@ use std::iter::repeat_with;
 use std::path::PathBuf;
 
 use plain::answers::{arithmetic, closedness, demands, scoping, Answer};
+use plain::cases;
 use plain::random::{record, Rng};
 use plain::{condition, read, Record};
 
@@ -111,14 +112,35 @@ fn numbered(answer: &Answer, record: &Record) -> Said {
     }
 }
 
-/// So many accepted records, none twice, small ones mostly. There are fewer where nothing new is drawn for long.
+/// What chance seldom grows: a count reads a binder of the count around it, and the last of two arguments ties.
+const NESTED_COUNTS: &str = "\
+case nested: (count for x where P{a:x} && (count for y where Q{a:x,b:y}) > 0) > 0
+bytes: 01 01  02 78 00*23  02 79 00*23  20 00  30  31 01 00 00 00 01 00  18 01 00 02 00  20 00  20 01  30  31 02 00 05 00 06 00  31 01 00 04 00 07 00  18 02 00 08 00  30  33 00 01 00 0A 00  2A 0B 00 09 00  22 00 00  17 03 0C 00 0D 00  10 03 00 0E 00  30  33 00 00 00 10 00  2A 11 00 0F 00  22 00 00  17 03 12 00 13 00  7F 15 00
+list:
+arithmetic: no
+";
+
+/// So many accepted records: first those of cases.txt and the one above, then records at random, small ones mostly. There are fewer where nothing new
+/// is drawn for long.
 pub fn chosen(count: usize, seed: u64) -> Vec<Case> {
     let mut rng = Rng::new(seed);
     let mut choice = Choice::default();
-    repeat_with(|| any_case(&mut rng))
-        .take(DRAWS_FOR_EACH * count)
-        .filter(|case| choice.takes(case))
-        .take(count)
+    let mut cases: Vec<Case> = written()
+        .into_iter()
+        .map(|bytes| asked(bytes, &mut rng))
+        .collect();
+    let drawn = repeat_with(|| any_case(&mut rng)).take(DRAWS_FOR_EACH * count);
+    cases.extend(drawn.filter(|case| choice.takes(case)).take(count));
+    cases.truncate(count);
+    cases
+}
+
+fn written() -> Vec<Vec<u8>> {
+    let nested = cases::parse(NESTED_COUNTS).expect("the case above is in the form of cases.txt");
+    let all = cases::all().expect("cases.txt is in its form");
+    all.into_iter()
+        .chain(nested)
+        .map(|case| case.bytes)
         .collect()
 }
 
@@ -151,7 +173,11 @@ fn any_case(rng: &mut Rng) -> Case {
     };
     let size = 1 + rng.below(most);
     let bytes = record(rng, size);
-    let read = read(&bytes).expect("a grown record is accepted");
+    asked(bytes, rng)
+}
+
+fn asked(bytes: Vec<u8>, rng: &mut Rng) -> Case {
+    let read = read(&bytes).expect("the record is an accepted one");
     let seed = u128::from(rng.number()) << 64 | u128::from(rng.number());
     Case::of(bytes, &read, seed)
 }
@@ -213,4 +239,20 @@ pub fn summary_path() -> PathBuf {
 
 fn program() -> PathBuf {
     PathBuf::from(env!("CARGO_MANIFEST_DIR")).join("../../crates/oracle_cases")
+}
+
+#[cfg(test)]
+mod tests {
+    use plain::lists::{arithmetic, list};
+    use plain::{cases::parse, read};
+
+    use super::NESTED_COUNTS;
+
+    #[test]
+    fn nothing_is_found_in_the_nested_counts() {
+        let cases = parse(NESTED_COUNTS).unwrap();
+        let record = read(&cases[0].bytes).unwrap();
+        assert_eq!(list(&record), cases[0].list);
+        assert_eq!(arithmetic(&record), cases[0].arithmetic);
+    }
 }
