@@ -1,0 +1,3 @@
+//! What is kept of the answers of the Rust.
+
+pub mod stored;
