@@ -131,6 +131,13 @@ fn empty() {
     );
 }
 
+// Such a file is refused for what stands in it, which does not say what is most likely wrong.
+fn too_large(length: usize) {
+    text(b"\n   The file has ");
+    number(length);
+    text(b" bytes, and a record 6258 at most: check that it is the right file.");
+}
+
 pub fn refused(record: &[u8], refusal: u8, offset: usize, mode: Mode) {
     text(b"refused ");
     number(refusal as usize);
@@ -140,6 +147,9 @@ pub fn refused(record: &[u8], refusal: u8, offset: usize, mode: Mode) {
         empty();
     } else {
         explained(refusal);
+        if record.len() > 6258 {
+            too_large(record.len());
+        }
     }
     text(b"\n");
 }

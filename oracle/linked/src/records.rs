@@ -1,9 +1,11 @@
 //! Records of a given size, for the limits and the measurements.
 
 mod layers;
+mod rules;
 mod writer;
 
 pub use layers::{Layer, LAYERS};
+pub use rules::{rule, Plan};
 
 use layers::NOT;
 use writer::Writer;
