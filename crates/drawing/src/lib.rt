@@ -1,4 +1,4 @@
-// The condition of a record as a tree, a line for each node, with each entry below the node that it is about.
+// The condition of a record as a tree, a line for each node, with each entry on the line of the node that it is about.
 mod lines;
 mod shape;
 
@@ -14,7 +14,7 @@ fn draw(bytes: &[u8], entries: &[u32], i: NodeNo, depth: usize, role: Role)
     let n = node(bytes, i);
     if shape::has_line(n) {
         lines::node_line(bytes, i, n, depth, role);
-        lines::marks(bytes, entries, i, depth);
+        lines::marks(bytes, entries, i);
     }
     let children = shape::children_of(n);
     let first = children.first;

@@ -45,26 +45,29 @@ pub fn node_line(bytes: &[u8], i: NodeNo, n: Node, depth: usize, role: Role) {
     indent(depth);
     say_role(role);
     alone(bytes, n);
-    text(b"\n");
 }
 
-// A line for an entry that stands at the node.
-fn mark(bytes: &[u8], entry: u32, i: NodeNo, depth: usize) {
+// An entry, if it stands at the node.
+fn mark(bytes: &[u8], entry: u32, i: NodeNo) {
     let f = unpack(entry);
     if f.node.0 != i.0 {
         return;
     }
-    text(b"   !  ");
-    indent(depth);
+    text(b"  ! ");
     number(f.rule as usize);
     text(b": ");
     let whom = f.name;
     wrong(f.rule, about(bytes, whom));
-    text(b"\n");
 }
 
-pub fn marks(bytes: &[u8], entries: &[u32], i: NodeNo, depth: usize) {
+fn each_mark(bytes: &[u8], entries: &[u32], i: NodeNo) {
     for k in 0..entries.len() {
-        mark(bytes, entries[k], i, depth);
+        mark(bytes, entries[k], i);
     }
+}
+
+// The entries of the node, at the end of its line.
+pub fn marks(bytes: &[u8], entries: &[u32], i: NodeNo) {
+    each_mark(bytes, entries, i);
+    text(b"\n");
 }

@@ -33,7 +33,7 @@ fn numbers(entries: &[u32]) {
     }
 }
 
-// An entry in three lines: where, what and why, and how to mend it.
+// An entry: a line for where, what and why, and one on how to mend it.
 fn block(record: &[u8], entry: u32) {
     let f = unpack(entry);
     let rule = f.rule;
@@ -45,7 +45,7 @@ fn block(record: &[u8], entry: u32) {
     number(node.0 as usize);
     text(b" (");
     described(record, node);
-    text(b")\n   ");
+    text(b"): ");
     rules::wrong(rule, name);
     text(b": ");
     rules::why(rule, name);
@@ -164,7 +164,7 @@ named. Says what is wrong with the rule, where, and how to mend it. The last\n\
 line is the number of findings, or `accepted`.\n\
 \n\
 \x20\x20--numbers   each finding as document 01's number, one to a line\n\
-\x20\x20--tree      the rule as a tree, each finding below the node that it is about\n\
+\x20\x20--tree      the rule as a tree, each finding on the line of its node\n\
 \x20\x20--help      this text\n\
 \n\
 To tie a name is to give it a value: by an event that has it as an argument, by\n\

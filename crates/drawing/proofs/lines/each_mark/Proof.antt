@@ -3,14 +3,14 @@ use Prim.Native.Nat.{_-_}
 use mathlib.Core.Path.{_≡_}
 use lib.ListN.{length}
 use borrow.Author.Needs.{needs}
-use Rattle.drawing.proofs.lines.marks.Statement.{statement}
-use Rattle.drawing.proofs.lines.marks.Tie as tie
+use Rattle.drawing.proofs.lines.each_mark.Statement.{statement}
+use Rattle.drawing.proofs.lines.each_mark.Tie as tie
 
 abbrev Inv-loop : tie.InvT-loop
-Inv-loop bytes entries i depth k₀ k-end k = k-end ≡ length entries
+Inv-loop bytes entries i k₀ k-end k = k-end ≡ length entries
 
 abbrev μ-loop : tie.MeasureT-loop
-μ-loop bytes entries i depth k₀ k-end k = k-end - k
+μ-loop bytes entries i k₀ k-end k = k-end - k
 
 loop-holds : tie.Need-loop-holds Inv-loop μ-loop
 loop-holds c = search needs
@@ -36,8 +36,8 @@ loop-again c = search needs
 returns : tie.Need-returns Inv-loop μ-loop
 returns c = search needs
 
-pub marks-spec : {M : Type 1} → statement M
-marks-spec =
+pub each-mark-spec : {M : Type 1} → statement M
+each-mark-spec =
     tie.close
     (tie.spec
     Inv-loop
