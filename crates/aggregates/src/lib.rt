@@ -1,6 +1,7 @@
 // The entries of an aggregate, before its body's.
+use facts::collect_free;
+use facts::collect_range_restricted;
 use free::binder_names;
-use free::collect_free;
 use free::slot_name;
 use names::Names;
 use paper::Finding;
@@ -10,15 +11,18 @@ use paper::Slot;
 use paper::Subject;
 use record::access::node_at;
 use sigils::is_sigil;
-use vars::collect_range_restricted;
 use writes::emit;
 use writes::put;
 ghost use mathlib.Core.Path.{_≡_};
+ghost use mathlib.Core.Bool.{true};
+ghost use Prim.Native.Nat.{_<_};
+ghost use lib.ListN.{length};
 ghost use Rattle.paper.specs.Places.{at-cells, gather, findings};
 ghost use Rattle.paper.specs.Scoping.{binder-sigil, cell-of, cells};
 ghost use Rattle.names.specs.Words.{mem};
-ghost use Rattle.record.specs.Stored.{Has};
-ghost use Rattle.trees.specs.Trees.{condition-of, term-of, binders-of};
+ghost use Rattle.record.specs.Stored.{contents, Has};
+ghost use Rattle.facts.specs.Noted.{AllNoted};
+ghost use Rattle.trees.specs.Trees.{tree-of, condition-of, term-of, binders-of, is-condition};
 ghost use Rattle.writes.specs.Written.{Room, Wrote};
 ghost use Rattle.aggregates.specs.Aggregates.{skips, five, five-of};
 
@@ -95,6 +99,7 @@ fn emit_cells(
 fn check_aggregation(
     bytes: &[u8],
     starts: &[u16; 512],
+    rows: &[[u64; 5]],
     n: NodeNo,
     summed: Names,
     binders: NodeNo,
@@ -104,13 +109,13 @@ fn check_aggregation(
     out: &mut [u32],
     at: usize,
 ) -> usize
-    requires { ⌜ Has (now bytes) (now starts) (binders .0) × Has (now bytes) (now starts) (body .0) ⌝ }
+    requires { ⌜ Has (now bytes) (now starts) (binders .0) × (body .0 < length (contents (now bytes) .nodes)) × AllNoted (now bytes) (now rows) × (is-condition (tree-of (now bytes) (body .0)) ≡ true) ⌝ }
     requires { ⌜ Room (gather findings (five (mem words) n (mem summed) (binders-of (now bytes) (binders .0)) (condition-of (now bytes) (body .0)) (mem scope))) at ⌝ }
     ensures { λ r. ⌜ Wrote (gather findings (five (mem words) n (mem summed) (binders-of (now (bytes .entry)) (binders .0)) (condition-of (now (bytes .entry)) (body .0)) (mem scope))) at r (now (out .entry)) (now (out .exit)) ⌝ }
 {
     let own = binder_names(bytes, starts, binders);
-    let inner = collect_free(bytes, starts, body);
-    let tied = collect_range_restricted(bytes, starts, body);
+    let inner = collect_free(bytes, rows, body);
+    let tied = collect_range_restricted(bytes, rows, body);
     let known = names::union(scope, own);
     let unsummed = names::minus(summed, own);
     let unknown = names::minus(inner, known);
@@ -127,13 +132,14 @@ fn check_aggregation(
 pub fn check_agg_expr(
     bytes: &[u8],
     starts: &[u16; 512],
+    rows: &[[u64; 5]],
     i: NodeNo,
     scope: Names,
     words: Names,
     out: &mut [u32],
     at: usize,
 ) -> usize
-    requires { ⌜ Has (now bytes) (now starts) (i .0) ⌝ }
+    requires { ⌜ Has (now bytes) (now starts) (i .0) × AllNoted (now bytes) (now rows) ⌝ }
     requires { ⌜ Room (gather findings (five-of (mem words) (term-of (now bytes) (i .0)) (mem scope))) at ⌝ }
     ensures { λ r. ⌜ Wrote (gather findings (five-of (mem words) (term-of (now (bytes .entry)) (i .0)) (mem scope))) at r (now (out .entry)) (now (out .exit)) ⌝ }
 {
@@ -144,6 +150,7 @@ pub fn check_agg_expr(
             check_aggregation(
                 bytes,
                 starts,
+                rows,
                 i,
                 summed,
                 binders,
@@ -159,6 +166,7 @@ pub fn check_agg_expr(
             check_aggregation(
                 bytes,
                 starts,
+                rows,
                 i,
                 summed,
                 binders,

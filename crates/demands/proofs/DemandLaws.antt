@@ -28,21 +28,13 @@ use Rattle.trees.specs.Trees.{tree-of, condition-of, term-of, binders-of}
 use Rattle.trees.specs.Terms.{free-in}
 use Rattle.trees.proofs.Arms.{Child, Arm}
 use Rattle.trees.proofs.Sorts.{at-term}
-use Rattle.trees.proofs.Shapes.{Aggregate, sum, count}
-use Rattle.trees.proofs.ByKind.{condition-cases, term-cases}
+use Rattle.trees.proofs.Shapes as shape
+use Rattle.trees.proofs.Shapes.{Two, Base, Aggregate, sum, count}
+use Rattle.trees.proofs.ByKind.{condition-kinds, no-other, condition-cases, term-cases}
 use Rattle.writes.specs.Written.{Room, Wrote}
 use native.Mathlib.Nat.{le-refl}
 use Rattle.writes.proofs.WriteLaws.{wrote-then, wrote-is, room-is, room-first, room-rest}
-use Rattle.demands.specs.Demanded.{demanded, owed, owed-compared}
-
--- a time operator over one condition
-pub data Past (b : NodeNo) : Node → Type 0 where
-  formerly : {w : ℕ} → Past b (node.Formerly b w)
-  previous : {w : ℕ} → Past b (node.Previous b w)
-
-pub of-past : {bytes starts : List ℕ} {i : ℕ} {b : NodeNo} {m : Node} → Past b m → Arm bytes starts i m → Child bytes starts i condition-sort (b .0)
-of-past formerly a = a .children .0
-of-past previous a = a .children .0
+use Rattle.demands.specs.Demanded.{place-below, demanded, owed, owed-compared}
 
 -- ---- from a place on
 
@@ -92,50 +84,52 @@ two : (s t : Spot) {left right first second : Set} → first ≡ left → second
 unfolding demanded gather
 two s t e d = ap₂ {C = List Finding} _++_ (ap (demanded true s) (sym e)) (one true t d)
 
+asked-so : (s : Spot) (names : Set) {asked so : Bool} → asked ≡ so → demanded so s names ≡ demanded asked s names
+asked-so s names e = ap (λ (b : Bool). demanded b s names) (sym e)
+
 module _ (ties : Set) {bytes starts : List ℕ} {i : ℕ} where
   -- ---- below a condition
 
   in-below : {m : Node} → Arm bytes starts i m → below-it (condition-of bytes i) ties ≡ below-it (as-condition (planted (tree-of bytes) (node-no i) m)) ties
   in-below a = ap (λ (t : Tree). below-it (as-condition t) ties) (a .tree)
 
-  pub below-and : {grown : Set} {l r : NodeNo} → Arm bytes starts i (node.And l r) → grown ≡ ties ∪ restricted (condition-of bytes (l .0))
-      → below-it (condition-of bytes i) ties
-      ≡ demanded true (condition (condition-of bytes (l .0))) ties ++ demanded true (condition (condition-of bytes (r .0))) grown
-  unfolding planted as-condition below-it demand-below
-  below-and a e = in-below a ∙ two _ _ refl e
+  at-place : {A : Type 0} (f : Place → A) (k : ℕ) {m : Node} → Arm bytes starts i m
+      → f (place-below k (condition-of bytes i) ties) ≡ f (place-below k (as-condition (planted (tree-of bytes) (node-no i) m)) ties)
+  at-place f k a = ap (λ (t : Tree). f (place-below k (as-condition t) ties)) (a .tree)
 
-  pub below-or : {l r : NodeNo} → Arm bytes starts i (node.Or l r)
-      → below-it (condition-of bytes i) ties
-      ≡ demanded true (condition (condition-of bytes (l .0))) ties ++ demanded true (condition (condition-of bytes (r .0))) ties
-  unfolding planted as-condition below-it demand-below
-  below-or a = in-below a ∙ two _ _ refl refl
+  named-at : (k : ℕ) {m : Node} {s : Set} → Arm bytes starts i m → s ≡ place-below k (condition-of bytes i) ties .names → s ≡ place-below k (as-condition (planted (tree-of bytes) (node-no i) m)) ties .names
+  named-at k a e = e ∙ at-place (λ (p : Place). p .names) k a
 
-  pub below-since : {grown : Set} {l r : NodeNo} {w : ℕ} → Arm bytes starts i (node.Since l r w) → grown ≡ ties ∪ restricted (condition-of bytes (r .0))
-      → below-it (condition-of bytes i) ties
-      ≡ demanded true (condition (condition-of bytes (l .0))) grown ++ demanded true (condition (condition-of bytes (r .0))) ties
-  unfolding planted as-condition below-it demand-below
-  below-since a e = in-below a ∙ two _ _ e refl
+  pub below-two : {first second : Set} {l r : NodeNo} {m : Node} → Two l r m → Arm bytes starts i m → first ≡ place-below 0 (condition-of bytes i) ties .names → second ≡ place-below 1 (condition-of bytes i) ties .names
+      → below-it (condition-of bytes i) ties ≡ demanded true (condition (condition-of bytes (l .0))) first ++ demanded true (condition (condition-of bytes (r .0))) second
+  unfolding planted as-condition below-it demand-below place-below
+  below-two shape.and a e f = in-below a ∙ two _ _ (named-at 0 a e) (named-at 1 a f)
+  below-two shape.or a e f = in-below a ∙ two _ _ (named-at 0 a e) (named-at 1 a f)
+  below-two shape.since a e f = in-below a ∙ two _ _ (named-at 0 a e) (named-at 1 a f)
 
-  pub below-not : {b : NodeNo} → Arm bytes starts i (node.Not b)
-      → below-it (condition-of bytes i) ties ≡ demanded false (condition (condition-of bytes (b .0))) ties
-  unfolding planted as-condition below-it demand-below
-  below-not a = in-below a ∙ one _ _ refl
+  pub below-base : {inner : Set} {asked : Bool} {b : NodeNo} {m : Node} → Base b m → Arm bytes starts i m → inner ≡ place-below 0 (condition-of bytes i) ties .names
+      → asked ≡ place-below 0 (condition-of bytes i) ties .asked → below-it (condition-of bytes i) ties ≡ demanded asked (condition (condition-of bytes (b .0))) inner
+  unfolding planted as-condition below-it demand-below place-below
+  below-base (shape.body (shape.one shape.not)) a e f = in-below a ∙ one _ _ (named-at 0 a e) ∙ asked-so _ _ (f ∙ at-place (λ (p : Place). p .asked) 0 a)
+  below-base (shape.body (shape.one shape.formerly)) a e f = in-below a ∙ one _ _ (named-at 0 a e) ∙ asked-so _ _ (f ∙ at-place (λ (p : Place). p .asked) 0 a)
+  below-base (shape.body (shape.one shape.previous)) a e f = in-below a ∙ one _ _ (named-at 0 a e) ∙ asked-so _ _ (f ∙ at-place (λ (p : Place). p .asked) 0 a)
+  below-base (shape.body shape.exists) a e f = in-below a ∙ one _ _ (named-at 0 a e) ∙ asked-so _ _ (f ∙ at-place (λ (p : Place). p .asked) 0 a)
+  below-base shape.refine a e f = in-below a ∙ one _ _ (named-at 0 a e) ∙ asked-so _ _ (f ∙ at-place (λ (p : Place). p .asked) 0 a)
 
-  pub below-refine : {b l : NodeNo} → Arm bytes starts i (node.Refine b l)
-      → below-it (condition-of bytes i) ties ≡ demanded false (condition (condition-of bytes (b .0))) ties
-  unfolding planted as-condition below-it demand-below
-  below-refine a = in-below a ∙ one _ _ refl
+  -- what is tied below
+  pub first-since : {given grown : Set} {l r : NodeNo} {w : ℕ} → Arm bytes starts i (node.Since l r w) → given ≡ restricted (condition-of bytes (r .0))
+      → grown ≡ ties ∪ given → grown ≡ place-below 0 (condition-of bytes i) ties .names
+  unfolding planted as-condition demand-below place-below
+  first-since a e g = g ∙ ap₂ _∪_ refl e ∙ sym (at-place (λ (p : Place). p .names) 0 a)
 
-  pub below-past : {b : NodeNo} {m : Node} → Past b m → Arm bytes starts i m
-      → below-it (condition-of bytes i) ties ≡ demanded true (condition (condition-of bytes (b .0))) ties
-  unfolding planted as-condition below-it demand-below
-  below-past formerly a = in-below a ∙ one _ _ refl
-  below-past previous a = in-below a ∙ one _ _ refl
+  pub first-exists : {own inner : Set} {s : Slot} {y : ℕ} {b : NodeNo} → Arm bytes starts i (node.Exists s y b) → own ≡ named s → inner ≡ ties ∖ own → inner ≡ place-below 0 (condition-of bytes i) ties .names
+  unfolding planted as-condition demand-below place-below
+  first-exists a e g = g ∙ ap₂ _∖_ refl e ∙ sym (at-place (λ (p : Place). p .names) 0 a)
 
-  pub below-exists : {inner : Set} {s : Slot} {y : ℕ} {b : NodeNo} → Arm bytes starts i (node.Exists s y b) → inner ≡ ties ∖ named s
-      → below-it (condition-of bytes i) ties ≡ demanded true (condition (condition-of bytes (b .0))) inner
-  unfolding planted as-condition below-it demand-below
-  below-exists a e = in-below a ∙ one _ _ e
+  pub second-and : {given grown : Set} {l r : NodeNo} → Arm bytes starts i (node.And l r) → given ≡ restricted (condition-of bytes (l .0)) → grown ≡ ties ∪ given
+      → grown ≡ place-below 1 (condition-of bytes i) ties .names
+  unfolding planted as-condition demand-below place-below
+  second-and a e g = g ∙ ap₂ _∪_ refl e ∙ sym (at-place (λ (p : Place). p .names) 1 a)
 
   pub below-comparison : {o : ℕ} {l r : NodeNo} → Arm bytes starts i (node.Comparison o l r)
       → below-it (condition-of bytes i) ties ≡ demanded true (operand (term-of bytes (l .0))) ties ++ demanded true (operand (term-of bytes (r .0))) ties
@@ -261,3 +255,63 @@ no-body ties t n =
 pub operand-none : (ties : Set) {bytes starts : List ℕ} {i : ℕ} {m : Node} → Arm bytes starts i m → OneOf no-body-kinds (tagOf the-type m)
     → demanded true (operand (term-of bytes i)) ties ≡ []
 operand-none ties a h = in-operand ties a ∙ no-body ties _ _ _ h
+
+-- all but Since and Exists
+abbrev same-first-kinds : List ℕ
+same-first-kinds =
+    0 ∷ 1 ∷ 2 ∷ 3 ∷ 4 ∷ 7 ∷ 8 ∷ 9 ∷ 10 ∷ 11 ∷ 12 ∷ 13 ∷ 14 ∷ 15 ∷ 16 ∷ 17 ∷ 18 ∷ 19 ∷ 20 ∷ 21 ∷ 22 ∷ 23 ∷ 24 ∷ 25 ∷ 26 ∷ 27 ∷ 28 ∷ []
+
+same-first : (ties : Set) (t : ℕ → Tree) (n : NodeNo) (m : Node) → OneOf same-first-kinds (tagOf the-type m) → place-below 0 (as-condition (planted t n m)) ties .names ≡ ties
+unfolding demand-below place-below
+same-first ties t n =
+    condition-cases t n (λ m z. OneOf same-first-kinds (tagOf the-type m) → place-below 0 z ties .names ≡ ties)
+    (λ l r h. refl) (λ l r h. refl) (λ b h. refl) (λ b w h. refl) (λ b w h. refl) (λ l r w h. absurd (miss same-first-kinds 5 tt h))
+    (λ s y b h. absurd (miss same-first-kinds 6 tt h)) (λ o l r h. refl) (λ a l h. refl) (λ b l h. refl) (λ s h. refl) (λ y h. refl) (λ y h. refl) (λ m e h. refl)
+
+-- all but And
+abbrev same-second-kinds : List ℕ
+same-second-kinds =
+    1 ∷ 2 ∷ 3 ∷ 4 ∷ 5 ∷ 6 ∷ 7 ∷ 8 ∷ 9 ∷ 10 ∷ 11 ∷ 12 ∷ 13 ∷ 14 ∷ 15 ∷ 16 ∷ 17 ∷ 18 ∷ 19 ∷ 20 ∷ 21 ∷ 22 ∷ 23 ∷ 24 ∷ 25 ∷ 26 ∷ 27 ∷ 28 ∷ []
+
+same-second : (ties : Set) (t : ℕ → Tree) (n : NodeNo) (m : Node) → OneOf same-second-kinds (tagOf the-type m) → place-below 1 (as-condition (planted t n m)) ties .names ≡ ties
+unfolding demand-below place-below
+same-second ties t n =
+    condition-cases t n (λ m z. OneOf same-second-kinds (tagOf the-type m) → place-below 1 z ties .names ≡ ties)
+    (λ l r h. absurd (miss same-second-kinds 0 tt h)) (λ l r h. refl) (λ b h. refl) (λ b w h. refl) (λ b w h. refl) (λ l r w h. refl)
+    (λ s y b h. refl) (λ o l r h. refl) (λ a l h. refl) (λ b l h. refl) (λ s h. refl) (λ y h. refl) (λ y h. refl) (λ m e h. refl)
+
+-- all but Not and Refine
+abbrev asked-kinds : List ℕ
+asked-kinds = 0 ∷ 1 ∷ 3 ∷ 4 ∷ 5 ∷ 6 ∷ 7 ∷ 8 ∷ 10 ∷ 11 ∷ 12 ∷ 13 ∷ 14 ∷ 15 ∷ 16 ∷ 17 ∷ 18 ∷ 19 ∷ 20 ∷ 21 ∷ 22 ∷ 23 ∷ 24 ∷ 25 ∷ 26 ∷ 27 ∷ 28 ∷ []
+
+first-asked : (ties : Set) (t : ℕ → Tree) (n : NodeNo) (m : Node) → OneOf asked-kinds (tagOf the-type m) → place-below 0 (as-condition (planted t n m)) ties .asked ≡ true
+unfolding demand-below place-below
+first-asked ties t n =
+    condition-cases t n (λ m z. OneOf asked-kinds (tagOf the-type m) → place-below 0 z ties .asked ≡ true)
+    (λ l r h. refl) (λ l r h. refl) (λ b h. absurd (miss asked-kinds 2 tt h)) (λ b w h. refl) (λ b w h. refl) (λ l r w h. refl) (λ s y b h. refl) (λ o l r h. refl)
+    (λ a l h. refl) (λ b l h. absurd (miss asked-kinds 9 tt h)) (λ s h. refl) (λ y h. refl) (λ y h. refl) (λ m e h. refl)
+
+abbrev unasked-kinds : List ℕ
+unasked-kinds = 2 ∷ 9 ∷ []
+
+first-unasked : (ties : Set) (t : ℕ → Tree) (n : NodeNo) (m : Node) → OneOf unasked-kinds (tagOf the-type m) → place-below 0 (as-condition (planted t n m)) ties .asked ≡ false
+unfolding demand-below place-below
+first-unasked ties t n =
+    condition-cases t n (λ m z. OneOf unasked-kinds (tagOf the-type m) → place-below 0 z ties .asked ≡ false)
+    (λ l r h. absurd (miss unasked-kinds 0 tt h)) (λ l r h. absurd (miss unasked-kinds 1 tt h)) (λ b h. refl) (λ b w h. absurd (miss unasked-kinds 3 tt h))
+    (λ b w h. absurd (miss unasked-kinds 4 tt h)) (λ l r w h. absurd (miss unasked-kinds 5 tt h)) (λ s y b h. absurd (miss unasked-kinds 6 tt h))
+    (λ o l r h. absurd (miss unasked-kinds 7 tt h)) (λ a l h. absurd (miss unasked-kinds 8 tt h)) (λ b l h. refl) (λ s h. absurd (miss unasked-kinds 10 tt h))
+    (λ y h. absurd (miss unasked-kinds 11 tt h)) (λ y h. absurd (miss unasked-kinds 12 tt h)) (λ m e h. absurd (no-other unasked-kinds condition-kinds _ refl h e))
+
+module _ (ties : Set) {bytes starts : List ℕ} {i : ℕ} {m : Node} (a : Arm bytes starts i m) where
+  pub first-same : OneOf same-first-kinds (tagOf the-type m) → ties ≡ place-below 0 (condition-of bytes i) ties .names
+  first-same h = sym (at-place ties (λ (p : Place). p .names) 0 a ∙ same-first ties _ _ _ h)
+
+  pub second-same : OneOf same-second-kinds (tagOf the-type m) → ties ≡ place-below 1 (condition-of bytes i) ties .names
+  second-same h = sym (at-place ties (λ (p : Place). p .names) 1 a ∙ same-second ties _ _ _ h)
+
+  pub asked-below : OneOf asked-kinds (tagOf the-type m) → true ≡ place-below 0 (condition-of bytes i) ties .asked
+  asked-below h = sym (at-place ties (λ (p : Place). p .asked) 0 a ∙ first-asked ties _ _ _ h)
+
+  pub unasked-below : OneOf unasked-kinds (tagOf the-type m) → false ≡ place-below 0 (condition-of bytes i) ties .asked
+  unasked-below h = sym (at-place ties (λ (p : Place). p .asked) 0 a ∙ first-unasked ties _ _ _ h)

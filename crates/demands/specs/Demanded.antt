@@ -1,14 +1,20 @@
 -- The entries of demands from a place on, and those of one condition. Assumes nothing: these are definitions.
 use mathlib.Core.Bool.{Bool}
 use mathlib.Core.List.{List}
+use Prim.Native.Nat.{ℕ}
+use lib.ListN.{getD}
 use Rattle.paper.specs.declared.NodeNo.{NodeNo}
 use Rattle.paper.specs.declared.Finding.{Finding}
 use Rattle.paper.specs.declared.Tied.{Tied}
 use Rattle.paper.specs.declared.Tied.the-variants.{Left, Right, Neither}
 use Rattle.paper.specs.Sets.{Set, _∪_, _∖_}
 use Rattle.paper.specs.Tree.{Condition}
-use Rattle.paper.specs.Places.{Spot, condition, asked-at, for-names, gather, findings, found}
+use Rattle.paper.specs.Places.{Spot, Place, condition, asked-at, for-names, gather, findings, found}
 use Rattle.paper.specs.Demands.{demand-below, demand-broken}
+
+-- the first place below a condition, or the second, where these names are tied at the condition; its own place where there is none
+unfoldable pub place-below : ℕ → Condition → Set → Place
+place-below k c tied = getD (demand-below (asked-at (condition c) tied)) k (asked-at (condition c) tied)
 
 -- whether the place is asked, what stands there, and what is tied
 unfoldable pub demanded : Bool → Spot → Set → List Finding

@@ -1,26 +1,30 @@
 // Demands: 30 to 32.
+use facts::collect_free;
+use facts::collect_range_restricted;
+use facts::collect_term_var;
 use free::binder_names;
-use free::collect_free;
-use free::collect_term_var;
 use free::slot_name;
 use names::Names;
 use paper::Node;
 use paper::NodeNo;
 use paper::Tied;
 use record::access::node_at;
-use vars::collect_range_restricted;
 use vars::eq_restricted_var;
 use writes::emit;
+ghost use mathlib.Core.Path.{_≡_};
 ghost use mathlib.Core.Bool.{true};
 ghost use mathlib.Core.List.{[]};
+ghost use lib.ListN.{getD};
+ghost use Rattle.paper.specs.declared.Node.the-variants.{ListEnd};
 ghost use Rattle.paper.specs.Record.{pick};
 ghost use Rattle.paper.specs.Sets.{_∖_};
 ghost use Rattle.paper.specs.Places.{condition, operand, for-names, findings};
 ghost use Rattle.names.specs.Words.{mem};
-ghost use Rattle.record.specs.Stored.{Has};
+ghost use Rattle.record.specs.Stored.{contents, Has};
+ghost use Rattle.facts.specs.Noted.{AllNoted};
 ghost use Rattle.trees.specs.Trees.{condition-of, term-of};
 ghost use Rattle.writes.specs.Written.{Room, Wrote};
-ghost use Rattle.demands.specs.Demanded.{demanded, owed, owed-compared};
+ghost use Rattle.demands.specs.Demanded.{place-below, demanded, owed, owed-compared};
 
 // A rule's entry at a node for each name that must be tied and is not.
 fn reject_unmet_var(
@@ -66,30 +70,32 @@ fn check_comparison_demands(
 fn check_conjunct_demands(
     bytes: &[u8],
     starts: &[u16; 512],
+    rows: &[[u64; 5]],
     i: NodeNo,
+    node: Node,
     tied: Names,
     out: &mut [u32],
     at: usize,
 ) -> usize
-    requires { ⌜ Has (now bytes) (now starts) (i .0) ⌝ }
+    requires { ⌜ Has (now bytes) (now starts) (i .0) × AllNoted (now bytes) (now rows) ⌝ }
+    requires { ⌜ node ≡ getD (contents (now bytes) .nodes) (i .0) ListEnd ⌝ }
     requires { ⌜ Room (owed (condition-of (now bytes) (i .0)) (mem tied)) at ⌝ }
     ensures { λ r. ⌜ Wrote (owed (condition-of (now (bytes .entry)) (i .0)) (mem tied)) at r (now (out .entry)) (now (out .exit)) ⌝ }
 {
-    let node = node_at(bytes, starts, i);
     match node {
         Node::Comparison(op, l, r) => {
             let side = eq_restricted_var(bytes, starts, op, l, r);
-            let left = collect_term_var(bytes, starts, l);
-            let right = collect_term_var(bytes, starts, r);
+            let left = collect_term_var(bytes, rows, l);
+            let right = collect_term_var(bytes, rows, r);
             check_comparison_demands(i, side, left, right, tied, out, at)
         }
         Node::Not(b) => {
-            let needs = collect_free(bytes, starts, b);
+            let needs = collect_free(bytes, rows, b);
             reject_unmet_var(i, 31, needs, tied, out, at)
         }
         Node::Since(l, r, _) => {
-            let needs = collect_free(bytes, starts, l);
-            let anchored = collect_range_restricted(bytes, starts, r);
+            let needs = collect_free(bytes, rows, l);
+            let anchored = collect_range_restricted(bytes, rows, r);
             let known = names::union(tied, anchored);
             reject_unmet_var(i, 32, needs, known, out, at)
         }
@@ -101,69 +107,121 @@ fn check_conjunct_demands(
 fn check_own_demands(
     bytes: &[u8],
     starts: &[u16; 512],
+    rows: &[[u64; 5]],
     i: NodeNo,
+    node: Node,
     tied: Names,
     asked: bool,
     out: &mut [u32],
     at: usize,
 ) -> usize
-    requires { ⌜ Has (now bytes) (now starts) (i .0) ⌝ }
+    requires { ⌜ Has (now bytes) (now starts) (i .0) × AllNoted (now bytes) (now rows) ⌝ }
+    requires { ⌜ node ≡ getD (contents (now bytes) .nodes) (i .0) ListEnd ⌝ }
     requires { ⌜ Room (pick asked (owed (condition-of (now bytes) (i .0)) (mem tied)) []) at ⌝ }
     ensures { λ r. ⌜ Wrote (pick asked (owed (condition-of (now (bytes .entry)) (i .0)) (mem tied)) []) at r (now (out .entry)) (now (out .exit)) ⌝ }
 {
     if asked {
-        return check_conjunct_demands(bytes, starts, i, tied, out, at);
+        return check_conjunct_demands(bytes, starts, rows, i, node, tied, out, at);
     }
     at
 }
 
-// The entries of a condition and of what lies below it. What is tied grows on the right of And by
-// the left and on the left of Since by the right, and a binder takes its name out of it.
+// What is tied at the first part of a condition: on the left of Since also what the right restricts, below a binder not its name.
+fn tied_first(
+    bytes: &[u8],
+    starts: &[u16; 512],
+    rows: &[[u64; 5]],
+    i: NodeNo,
+    node: Node,
+    tied: Names,
+) -> Names
+    requires { ⌜ Has (now bytes) (now starts) (i .0) × AllNoted (now bytes) (now rows) ⌝ }
+    requires { ⌜ node ≡ getD (contents (now bytes) .nodes) (i .0) ListEnd ⌝ }
+    ensures { λ r. ⌜ mem r ≡ place-below 0 (condition-of (now (bytes .entry)) (i .0)) (mem tied) .names ⌝ }
+{
+    match node {
+        Node::Since(_, r, _) => {
+            let given = collect_range_restricted(bytes, rows, r);
+            names::union(tied, given)
+        }
+        Node::Exists(slot, _, _) => {
+            let own = slot_name(slot);
+            names::minus(tied, own)
+        }
+        _ => tied,
+    }
+}
+
+// What is tied at the second part: on the right of And also what the left restricts.
+fn tied_second(
+    bytes: &[u8],
+    starts: &[u16; 512],
+    rows: &[[u64; 5]],
+    i: NodeNo,
+    node: Node,
+    tied: Names,
+) -> Names
+    requires { ⌜ Has (now bytes) (now starts) (i .0) × AllNoted (now bytes) (now rows) ⌝ }
+    requires { ⌜ node ≡ getD (contents (now bytes) .nodes) (i .0) ListEnd ⌝ }
+    ensures { λ r. ⌜ mem r ≡ place-below 1 (condition-of (now (bytes .entry)) (i .0)) (mem tied) .names ⌝ }
+{
+    match node {
+        Node::And(l, _) => {
+            let given = collect_range_restricted(bytes, rows, l);
+            names::union(tied, given)
+        }
+        _ => tied,
+    }
+}
+
+// Whether the first part of a condition is asked: not below Not, and not the base of a refinement.
+fn asked_first(bytes: &[u8], starts: &[u16; 512], i: NodeNo, node: Node, tied: Names) -> bool
+    requires { ⌜ Has (now bytes) (now starts) (i .0) ⌝ }
+    requires { ⌜ node ≡ getD (contents (now bytes) .nodes) (i .0) ListEnd ⌝ }
+    ensures { λ r. ⌜ r ≡ place-below 0 (condition-of (now (bytes .entry)) (i .0)) (mem tied) .asked ⌝ }
+{
+    match node {
+        Node::Not(_) | Node::Refine(_, _) => false,
+        _ => true,
+    }
+}
+
+// The entries of a condition and of what lies below it.
 pub fn check_chain(
     bytes: &[u8],
     starts: &[u16; 512],
+    rows: &[[u64; 5]],
     i: NodeNo,
     tied: Names,
     asked: bool,
     out: &mut [u32],
     at: usize,
 ) -> usize
-    requires { ⌜ Has (now bytes) (now starts) (i .0) ⌝ }
+    requires { ⌜ Has (now bytes) (now starts) (i .0) × AllNoted (now bytes) (now rows) ⌝ }
     requires { ⌜ Room (demanded asked (condition (condition-of (now bytes) (i .0))) (mem tied)) at ⌝ }
     ensures { λ r. ⌜ Wrote (demanded asked (condition (condition-of (now (bytes .entry)) (i .0))) (mem tied)) at r (now (out .entry)) (now (out .exit)) ⌝ }
 {
     let node = node_at(bytes, starts, i);
-    let p = check_own_demands(bytes, starts, i, tied, asked, out, at);
+    let p = check_own_demands(bytes, starts, rows, i, node, tied, asked, out, at);
     match node {
-        Node::And(l, r) => {
-            let given = collect_range_restricted(bytes, starts, l);
-            let grown = names::union(tied, given);
-            let q = check_chain(bytes, starts, l, tied, true, out, p);
-            check_chain(bytes, starts, r, grown, true, out, q)
+        Node::And(l, r) | Node::Or(l, r) | Node::Since(l, r, _) => {
+            let first = tied_first(bytes, starts, rows, i, node, tied);
+            let second = tied_second(bytes, starts, rows, i, node, tied);
+            let q = check_chain(bytes, starts, rows, l, first, true, out, p);
+            check_chain(bytes, starts, rows, r, second, true, out, q)
         }
-        Node::Or(one, other) => {
-            let q = check_chain(bytes, starts, one, tied, true, out, p);
-            check_chain(bytes, starts, other, tied, true, out, q)
-        }
-        Node::Not(inner) => check_chain(bytes, starts, inner, tied, false, out, p),
-        Node::Refine(base, _) => check_chain(bytes, starts, base, tied, false, out, p),
-        Node::Formerly(b, _) | Node::Previous(b, _) => {
-            check_chain(bytes, starts, b, tied, true, out, p)
-        }
-        Node::Since(l, r, _) => {
-            let given = collect_range_restricted(bytes, starts, r);
-            let grown = names::union(tied, given);
-            let q = check_chain(bytes, starts, l, grown, true, out, p);
-            check_chain(bytes, starts, r, tied, true, out, q)
-        }
-        Node::Exists(slot, _, b) => {
-            let bound = slot_name(slot);
-            let inner = names::minus(tied, bound);
-            check_chain(bytes, starts, b, inner, true, out, p)
+        Node::Not(b)
+        | Node::Formerly(b, _)
+        | Node::Previous(b, _)
+        | Node::Exists(_, _, b)
+        | Node::Refine(b, _) => {
+            let inner = tied_first(bytes, starts, rows, i, node, tied);
+            let further = asked_first(bytes, starts, i, node, tied);
+            check_chain(bytes, starts, rows, b, inner, further, out, p)
         }
         Node::Comparison(_, l, r) => {
-            let q = descend_nested_chains(bytes, starts, l, tied, out, p);
-            descend_nested_chains(bytes, starts, r, tied, out, q)
+            let q = descend_nested_chains(bytes, starts, rows, l, tied, out, p);
+            descend_nested_chains(bytes, starts, rows, r, tied, out, q)
         }
         _ => p,
     }
@@ -173,25 +231,26 @@ pub fn check_chain(
 pub fn descend_nested_chains(
     bytes: &[u8],
     starts: &[u16; 512],
+    rows: &[[u64; 5]],
     i: NodeNo,
     tied: Names,
     out: &mut [u32],
     at: usize,
 ) -> usize
-    requires { ⌜ Has (now bytes) (now starts) (i .0) ⌝ }
+    requires { ⌜ Has (now bytes) (now starts) (i .0) × AllNoted (now bytes) (now rows) ⌝ }
     requires { ⌜ Room (demanded true (operand (term-of (now bytes) (i .0))) (mem tied)) at ⌝ }
     ensures { λ r. ⌜ Wrote (demanded true (operand (term-of (now (bytes .entry)) (i .0))) (mem tied)) at r (now (out .entry)) (now (out .exit)) ⌝ }
 {
     let node = node_at(bytes, starts, i);
     match node {
         Node::Arith(_, l, r) => {
-            let p = descend_nested_chains(bytes, starts, l, tied, out, at);
-            descend_nested_chains(bytes, starts, r, tied, out, p)
+            let p = descend_nested_chains(bytes, starts, rows, l, tied, out, at);
+            descend_nested_chains(bytes, starts, rows, r, tied, out, p)
         }
         Node::Sum(_, binders, body) | Node::Count(binders, body) => {
             let own = binder_names(bytes, starts, binders);
             let inner = names::minus(tied, own);
-            check_chain(bytes, starts, body, inner, true, out, at)
+            check_chain(bytes, starts, rows, body, inner, true, out, at)
         }
         _ => at,
     }

@@ -94,7 +94,7 @@ module _ {bytes starts : List ℕ} {i : ℕ} where
 -- ---- the other kinds
 
 -- Call, SigilRef, and no condition
-abbrev no-free-kinds : List ℕ
+abbrev pub no-free-kinds : List ℕ
 no-free-kinds = 11 ∷ 12 ∷ 13 ∷ 14 ∷ 15 ∷ 16 ∷ 17 ∷ 18 ∷ 19 ∷ 20 ∷ 21 ∷ 22 ∷ 23 ∷ 24 ∷ 25 ∷ 26 ∷ 27 ∷ 28 ∷ []
 
 pub no-free : (t : ℕ → Tree) (n : NodeNo) (m : Node) → OneOf no-free-kinds (tagOf the-type m) → free (as-condition (planted t n m)) ≡ none
@@ -107,7 +107,7 @@ no-free t n =
     (λ b l h. absurd (miss no-free-kinds 9 tt h)) (λ s h. absurd (miss no-free-kinds 10 tt h)) (λ y h. refl) (λ y h. refl) (λ m e h. refl)
 
 -- what has no variable and no term
-abbrev no-var-kinds : List ℕ
+abbrev pub no-var-kinds : List ℕ
 no-var-kinds = 0 ∷ 1 ∷ 2 ∷ 3 ∷ 4 ∷ 5 ∷ 6 ∷ 7 ∷ 8 ∷ 9 ∷ 10 ∷ 11 ∷ 12 ∷ 14 ∷ 15 ∷ 16 ∷ 17 ∷ 18 ∷ 19 ∷ 24 ∷ 25 ∷ 28 ∷ []
 
 pub no-var : (t : ℕ → Tree) (n : NodeNo) (m : Node) → OneOf no-var-kinds (tagOf the-type m) → free-in (planted t n m) ≡ none

@@ -1,7 +1,12 @@
 -- The parts of the list, over the sets that the code has. Assumes nothing.
-use mathlib.Core.Path.{_≡_, sym, ap}
+use Prim.Native.Nat.{ℕ, _+_, _<_, _≤_}
+use mathlib.Core.Path.{_≡_, refl, sym, ap}
 use mathlib.Core.Bool.{true, false}
-use mathlib.Core.List.{[], _++_}
+use mathlib.Core.List.{List, [], _∷_, _++_}
+use native.Mathlib.Omega.{arith}
+use lib.ListN.{length}
+use Rattle.paper.specs.declared.Finding.{Finding}
+use Rattle.writes.specs.Written.{Wrote}
 use Rattle.paper.specs.declared.NodeNo.{NodeNo}
 use Rattle.paper.specs.Sets.{Set, none}
 use Rattle.paper.specs.Tree.{Condition}
@@ -9,7 +14,11 @@ use Rattle.paper.specs.FreeAndRestricted.{free, holds-sigil}
 use Rattle.paper.specs.Places.{condition, for-names, findings}
 use Rattle.scoping.specs.Scoped.{scoped}
 use Rattle.demands.specs.Demanded.{demanded}
-use Rattle.listing.specs.Parts.{demands-of, listed}
+use Rattle.record.specs.Stored.{Has}
+use Rattle.record.proofs.StoredLaws.{few}
+use Rattle.trees.specs.Trees.{tree-of, is-condition}
+use Rattle.trees.proofs.Arms.{last-body}
+use Rattle.listing.specs.Parts.{Last, demands-of, listed, Filled}
 
 pub no-demands : (c : Condition) → holds-sigil c ≡ true → demands-of c ≡ []
 unfolding demands-of
@@ -23,3 +32,33 @@ pub listed-are : (words : Set) (n : NodeNo) (c : Condition) {scope : Set} → sc
     → listed words n c ≡ scoped words (condition c) scope ++ (findings (for-names 28 n (free c)) ++ demands-of c)
 unfolding listed
 listed-are words n c e = ap (λ (s : Set). scoped words (condition c) s ++ (findings (for-names 28 n (free c)) ++ demands-of c)) (sym e)
+
+-- what a walk from the last node asks for
+pub from-last : {P : Type 0} {bytes starts : List ℕ} {i : ℕ} → Last bytes starts i → P → Has bytes starts i × P × (is-condition (tree-of bytes i) ≡ true)
+from-last l p = (l .has, p, last-body (l .has) (l .all))
+
+pub in-all-rows : {bytes starts : List ℕ} {i : ℕ} → Last bytes starts i → i < 512
+in-all-rows {bytes} {i = i} l = few bytes i (l .has .1)
+
+-- ---- all or none
+
+none-wrote : (fs : List Finding) {count : ℕ} {before : List ℕ} → count ≡ 0 + length fs → count ≡ 0 → Wrote fs 0 count before before
+none-wrote [] e z = record { total = e; put = refl }
+none-wrote (f ∷ fs) e z = absurd (omega arith)
+
+-- the walk that counts
+module _ {fs : List Finding} {count : ℕ} {one counted : List ℕ} (w : Wrote fs 0 count one counted) where
+  so-many : count ≡ length fs
+  so-many = let t = w .total in omega arith
+
+  pub filled-none : {before : List ℕ} → count ≡ 0 → Filled fs count before before
+  filled-none z = record { total = so-many; kept = λ h. refl; wrote = λ h. none-wrote fs (w .total) z }
+
+  pub filled-not : {before : List ℕ} → length before < count → Filled fs count before before
+  filled-not l = record { total = so-many; kept = λ h. refl; wrote = λ h. absurd (omega arith) }
+
+  pub filled-all : {next : ℕ} {before after : List ℕ} → count ≤ length before → Wrote fs 0 next before after → Filled fs next before after
+  filled-all l v =
+      let t = v .total in
+      let u = w .total in
+      record { total = omega arith; kept = λ h. absurd (omega arith); wrote = λ h. v }

@@ -1,4 +1,6 @@
 -- The parts of the list of a condition that is a root. Assumes nothing: these are definitions.
+use Prim.Native.Nat.{ℕ, _+_, _<_, _≤_}
+use mathlib.Core.Path.{_≡_}
 use mathlib.Core.Bool.{true}
 use mathlib.Core.List.{List, [], _++_}
 use Rattle.paper.specs.declared.NodeNo.{NodeNo}
@@ -8,6 +10,9 @@ use Rattle.paper.specs.Sets.{Set, none}
 use Rattle.paper.specs.Tree.{Condition}
 use Rattle.paper.specs.FreeAndRestricted.{free, holds-sigil}
 use Rattle.paper.specs.Places.{condition, for-names, findings}
+use lib.ListN.{length}
+use Rattle.record.specs.Stored.{contents, Has}
+use Rattle.writes.specs.Written.{Wrote}
 use Rattle.scoping.specs.Scoped.{scoped}
 use Rattle.demands.specs.Demanded.{demanded}
 
@@ -17,3 +22,14 @@ demands-of c = pick (holds-sigil c) [] (demanded true (condition c) none)
 -- with these words reserved, where the condition is this node
 unfoldable pub listed : Set → NodeNo → Condition → List Finding
 listed words n c = scoped words (condition c) none ++ (findings (for-names 28 n (free c)) ++ demands-of c)
+
+-- the array has the bytes, and node i is their last
+pub record Last (bytes starts : List ℕ) (i : ℕ) : Type 0 where
+  pub has : Has bytes starts i
+  pub all : length (contents bytes .nodes) ≡ i + 1
+
+-- all entries are in the buffer, or none where it has no room for all
+pub record Filled (fs : List Finding) (count : ℕ) (before after : List ℕ) : Type 0 where
+  pub total : count ≡ length fs
+  pub kept : length before < count → after ≡ before
+  pub wrote : count ≤ length before → Wrote fs 0 count before after

@@ -313,6 +313,8 @@ pub record WellFormed (c : Contents) : Type 0 where
   -- each node but the root is referred to once, and the root never
   pub once : (k : ℕ) → suc k < length (c .nodes) → mentions k (c .nodes) ≡ 1
   pub top : mentions (length (c .nodes) - 1) (c .nodes) ≡ 0
+  -- the root is a condition
+  pub rooted : of-sort condition (tree-at (c .nodes) (length (c .nodes) - 1)) ≡ true
   -- whatever the numbers weigh, the root's tree weighs as much as all nodes: each stands in it, and stands once
   pub whole : (w : ℕ → ℕ) → weigh (root c) w ≡ sum w (length (c .nodes))
 
@@ -335,13 +337,14 @@ module _ (so : SoFar) (g : Grown so) (c : Contents) (e : Closed so c) where
       ap (λ (t : Bool). pick t 0 (f (length (so .nodes) - 1))) (top-spare (so .used (length (so .nodes) - 1)) refl) in
       omega arith
 
+  last-fits : of-sort condition (tree-at (said (so .nodes)) (length (so .nodes) - 1)) ≡ true
+  last-fits = let y = last-is in sym (g .fit (length (so .nodes) - 1) (omega arith) condition) ∙ e .top
+
   whole-of : (w : ℕ → ℕ) → weigh (root (taken so)) w ≡ sum w (length (so .nodes))
   unfolding root root-no weight-as
   whole-of w =
-      let y = last-is in
-      let h : of-sort condition (tree-at (said (so .nodes)) (length (so .nodes) - 1)) ≡ true = sym (g .fit (length (so .nodes) - 1) (omega arith) condition) ∙ e .top in
       ap (λ (i : ℕ). weigh (as-condition (tree-at (said (so .nodes)) (i - 1))) w) (said-long (so .nodes))
-      ∙ at-home condition (tree-at (said (so .nodes)) (length (so .nodes) - 1)) w h ∙ only-last w
+      ∙ at-home condition (tree-at (said (so .nodes)) (length (so .nodes) - 1)) w last-fits ∙ only-last w
 
   formed : WellFormed (taken so)
   formed =
@@ -357,6 +360,7 @@ module _ (so : SoFar) (g : Grown so) (c : Contents) (e : Closed so c) where
         top =
             ap (λ (i : ℕ). mentions (i - 1) (said (so .nodes))) l ∙ g .once (length (so .nodes) - 1)
             ∙ ap (λ (t : Bool). pick t 1 0) (top-spare (so .used (length (so .nodes) - 1)) refl);
+        rooted = ap (λ (i : ℕ). of-sort condition (tree-at (said (so .nodes)) (i - 1))) l ∙ last-fits;
         whole = λ w. whole-of w ∙ ap (sum w) (sym l);
       }
 

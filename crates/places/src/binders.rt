@@ -1,19 +1,23 @@
 // The binder of an exists, and the slot of a tp.
+use facts::body_has_sigil;
+use facts::collect_range_restricted;
 use free::slot_name;
 use names::Names;
 use paper::NodeNo;
 use paper::Slot;
-use sigils::body_has_sigil;
-use vars::collect_range_restricted;
 use writes::emit;
 ghost use mathlib.Core.Path.{_≡_};
+ghost use mathlib.Core.Bool.{true};
+ghost use Prim.Native.Nat.{_<_};
+ghost use lib.ListN.{length};
 ghost use Rattle.paper.specs.Record.{pick};
 ghost use Rattle.paper.specs.Sets.{none, _∩_, _∖_};
 ghost use Rattle.paper.specs.FreeAndRestricted.{named, restricted, holds-sigil};
 ghost use Rattle.paper.specs.Places.{for-names, findings};
 ghost use Rattle.names.specs.Words.{mem};
-ghost use Rattle.record.specs.Stored.{Has};
-ghost use Rattle.trees.specs.Trees.{condition-of};
+ghost use Rattle.record.specs.Stored.{contents};
+ghost use Rattle.facts.specs.Noted.{AllNoted};
+ghost use Rattle.trees.specs.Trees.{tree-of, condition-of, is-condition};
 ghost use Rattle.trees.specs.Terms.{Tabled};
 ghost use Rattle.writes.specs.Written.{Room, Wrote};
 
@@ -35,34 +39,32 @@ pub fn reject_reserved_binder(
 }
 
 // The slot's name, unless the body restricts it or holds a sigil.
-fn unsafe_name(bytes: &[u8], starts: &[u16; 512], slot: Slot, body: NodeNo) -> Names
-    requires { ⌜ Tabled slot × Has (now bytes) (now starts) (body .0) ⌝ }
+fn unsafe_name(bytes: &[u8], rows: &[[u64; 5]], slot: Slot, body: NodeNo) -> Names
+    requires { ⌜ Tabled slot × (body .0 < length (contents (now bytes) .nodes)) × AllNoted (now bytes) (now rows) × (is-condition (tree-of (now bytes) (body .0)) ≡ true) ⌝ }
     ensures { λ r. ⌜ mem r ≡ pick (holds-sigil (condition-of (now (bytes .entry)) (body .0))) none (named slot ∖ restricted (condition-of (now (bytes .entry)) (body .0))) ⌝ }
 {
-    let none = names::empty();
-    let own = slot_name(slot);
-    let tied = collect_range_restricted(bytes, starts, body);
-    let loose = names::minus(own, tied);
-    if body_has_sigil(bytes, starts, body) {
-        return none;
+    if body_has_sigil(bytes, rows, body) {
+        return names::empty();
     }
-    loose
+    let own = slot_name(slot);
+    let tied = collect_range_restricted(bytes, rows, body);
+    names::minus(own, tied)
 }
 
 // 23, if the slot's name is not restricted in the body.
 pub fn check_exists_safe(
     bytes: &[u8],
-    starts: &[u16; 512],
+    rows: &[[u64; 5]],
     n: NodeNo,
     slot: Slot,
     body: NodeNo,
     out: &mut [u32],
     at: usize,
 ) -> usize
-    requires { ⌜ Tabled slot × Has (now bytes) (now starts) (body .0) ⌝ }
+    requires { ⌜ Tabled slot × (body .0 < length (contents (now bytes) .nodes)) × AllNoted (now bytes) (now rows) × (is-condition (tree-of (now bytes) (body .0)) ≡ true) ⌝ }
     requires { ⌜ Room (findings (for-names 23 n (pick (holds-sigil (condition-of (now bytes) (body .0))) none (named slot ∖ restricted (condition-of (now bytes) (body .0)))))) at ⌝ }
     ensures { λ r. ⌜ Wrote (findings (for-names 23 n (pick (holds-sigil (condition-of (now (bytes .entry)) (body .0))) none (named slot ∖ restricted (condition-of (now (bytes .entry)) (body .0)))))) at r (now (out .entry)) (now (out .exit)) ⌝ }
 {
-    let loose = unsafe_name(bytes, starts, slot, body);
+    let loose = unsafe_name(bytes, rows, slot, body);
     emit(out, at, 23, n, loose)
 }

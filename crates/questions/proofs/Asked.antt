@@ -36,7 +36,7 @@ use Rattle.writes.proofs.WriteLaws.{wrote-is, room-is}
 use Rattle.writes.proofs.FirstLaws.{first-told, all-told}
 use Rattle.scoping.specs.Scoped.{scoped}
 use Rattle.demands.specs.Demanded.{demanded}
-use Rattle.listing.specs.Parts.{demands-of, listed}
+use Rattle.listing.specs.Parts.{Last, demands-of, listed, Filled}
 
 -- ---- a refusal
 
@@ -92,6 +92,13 @@ module _ (bytes : List ℕ) (r : Reading) (p : Read bytes r) {n k : ℕ} (e : r 
         let some = told .formed .some-node in
         let here : i .0 ≡ k - 1 = ap (λ (m : NodeNo). m .0) d in
         (read-stored bytes r p, omega arith)
+
+    pub last-root : Last bytes (r .arena .starts) (i .0)
+    last-root =
+        let long = told .nodes-are in
+        let some = told .formed .some-node in
+        let here : i .0 ≡ k - 1 = ap (λ (m : NodeNo). m .0) d in
+        record { has = has-root; all = omega arith }
 
     -- what a walk from the root writes is the part
     scoped-part : (seed : Set) → scoped (mem (r .arena .reserved)) (condition (condition-of bytes (i .0))) seed ≡ scoping-part (contents bytes) seed
@@ -149,27 +156,26 @@ module _ (bytes : List ℕ) (r : Reading) (p : Read bytes r) {n k : ℕ} (e : r 
     pub list-room : Room written 0
     list-room = room-is (sym list-parts) (let l = list-length (contents bytes) (told .formed) in record { left = omega arith })
 
-    counted : {count : ℕ} {before after : List ℕ} → Wrote written 0 count before after → count ≡ length (packed (contents bytes))
-    unfolding packed
-    counted w = let e = ap length list-parts in let f = length-map (the-list (contents bytes)) pack in let t = w .total in omega arith
+    module _ {count : ℕ} {before after : List ℕ} (w : Filled written count before after) where
+      counted : count ≡ length (packed (contents bytes))
+      unfolding packed
+      counted = let e = ap length list-parts in let f = length-map (the-list (contents bytes)) pack in let t = w .total in omega arith
 
-    module _ {count : ℕ} {one after : List ℕ} (w : Wrote written 0 count one after) (before : List ℕ) where
-      pub list-without-room : length before < count → (list bytes (length before) ≡ listing.NoRoom count) × (list-buffer bytes before ≡ before)
+      pub list-without-room : length before < count → (listing.NoRoom count ≡ list bytes (length before)) × (after ≡ list-buffer bytes before)
       unfolding list listing-of list-buffer buffer-of
       list-without-room h =
-          let e = counted w in
+          let e = counted in
           let f = lt-leb (length (packed (contents bytes))) (length before) (omega arith) in
-          (rw (told .outcome, f) (ap listing.NoRoom (sym e)), rw (told .outcome, f))
+          (rw (told .outcome, f) (ap listing.NoRoom e), rw (told .outcome, f) (w .kept h))
 
-      pub list-with-room : {next : ℕ} {filled : List ℕ} → count ≤ length before → Wrote written 0 next before filled
-          → (listing.Listed next ≡ list bytes (length before)) × (filled ≡ list-buffer bytes before)
+      pub list-with-room : count ≤ length before → (listing.Listed count ≡ list bytes (length before)) × (after ≡ list-buffer bytes before)
       unfolding list listing-of list-buffer buffer-of packed
-      list-with-room h v =
-          let e = counted w in
+      list-with-room h =
+          let e = counted in
           let f = le-leb (length (packed (contents bytes))) (length before) (omega arith) in (
-            rw (told .outcome, f) (ap listing.Listed (counted v)),
+            rw (told .outcome, f) (ap listing.Listed e),
             rw (told .outcome, f)
-                (all-told (the-list (contents bytes)) (let g = length-map (the-list (contents bytes)) pack in omega arith) (wrote-is (sym list-parts) v)),
+                (all-told (the-list (contents bytes)) (let g = length-map (the-list (contents bytes)) pack in omega arith) (wrote-is (sym list-parts) (w .wrote h))),
           )
 
     pub arithmetic-told : arithmetic bytes ≡ pick (has-arith (condition-of bytes (i .0))) arith.Yes arith.No

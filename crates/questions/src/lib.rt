@@ -1,8 +1,9 @@
 // The public questions. Any bytes may be asked about.
 use checks::arith::condition_has_arith;
-use checks::closed::check_leaf_closed;
-use listing::check_demands;
-use listing::write_list;
+use listing::demand_entries;
+use listing::list_entries;
+use listing::open_entries;
+use listing::scoping_entries;
 use names::Names;
 use paper::Answer;
 use paper::Arithmetic;
@@ -10,7 +11,6 @@ use paper::Listing;
 use paper::NodeNo;
 use paper::Verdict;
 use record::reader::read;
-use scoping::check_condition;
 use writes::first;
 ghost use mathlib.Core.Path.{_≡_};
 ghost use lib.ListN.{length};
@@ -61,13 +61,12 @@ pub fn scoping(bytes: &[u8], seed: Names) -> Answer
 {
     let r = read(bytes);
     let v = r.verdict;
-    let a = r.arena;
     let Verdict::Counts { names: _, nodes } = v else {
         return passed_answer(v);
     };
     let mut one = [0u32; 1];
-    let words = a.reserved;
-    let count = check_condition(bytes, &a.starts, root(nodes), seed, words, &mut one, 0);
+    let words = r.arena.reserved;
+    let count = scoping_entries(bytes, &r.arena.starts, root(nodes), seed, words, &mut one);
     first(count, one[0])
 }
 
@@ -77,12 +76,11 @@ pub fn closedness(bytes: &[u8]) -> Answer
 {
     let r = read(bytes);
     let v = r.verdict;
-    let a = r.arena;
     let Verdict::Counts { names: _, nodes } = v else {
         return passed_answer(v);
     };
     let mut one = [0u32; 1];
-    let open = check_leaf_closed(bytes, &a.starts, root(nodes), &mut one, 0);
+    let open = open_entries(bytes, &r.arena.starts, root(nodes), &mut one);
     first(open, one[0])
 }
 
@@ -92,12 +90,11 @@ pub fn demands(bytes: &[u8]) -> Answer
 {
     let r = read(bytes);
     let v = r.verdict;
-    let a = r.arena;
     let Verdict::Counts { names: _, nodes } = v else {
         return passed_answer(v);
     };
     let mut one = [0u32; 1];
-    let owed = check_demands(bytes, &a.starts, root(nodes), &mut one, 0);
+    let owed = demand_entries(bytes, &r.arena.starts, root(nodes), &mut one);
     first(owed, one[0])
 }
 
@@ -107,33 +104,29 @@ pub fn arithmetic(bytes: &[u8]) -> Arithmetic
 {
     let r = read(bytes);
     let v = r.verdict;
-    let a = r.arena;
     let Verdict::Counts { names: _, nodes } = v else {
         return passed_arithmetic(v);
     };
-    if condition_has_arith(bytes, &a.starts, root(nodes)) {
+    if condition_has_arith(bytes, &r.arena.starts, root(nodes)) {
         return Arithmetic::Yes;
     }
     Arithmetic::No
 }
 
-// A refusal of the reader; the entries needed, where the buffer has fewer; or the list, in the first entries of the buffer, and its length. It is counted
-// first, so that a list without room writes nothing.
+// A refusal of the reader; the entries needed, where the buffer has fewer; or the list, in the first entries of the buffer, and its length.
 pub fn list(bytes: &[u8], out: &mut [u32]) -> Listing
     ensures { λ r. ⌜ (r ≡ list-answer (now (bytes .entry)) (length (now (out .entry)))) × (now (out .exit) ≡ list-buffer (now (bytes .entry)) (now (out .entry))) ⌝ }
 {
     let r = read(bytes);
     let v = r.verdict;
-    let a = r.arena;
     let Verdict::Counts { names: _, nodes } = v else {
         return passed_listing(v);
     };
-    let i = root(nodes);
-    let mut one = [0u32; 1];
-    let count = write_list(bytes, &a.starts, i, a.reserved, &mut one);
-    if out.len() < count {
+    let room = out.len();
+    let words = r.arena.reserved;
+    let count = list_entries(bytes, &r.arena.starts, root(nodes), words, out);
+    if room < count {
         return Listing::NoRoom(count);
     }
-    let written = write_list(bytes, &a.starts, i, a.reserved, out);
-    Listing::Listed(written)
+    Listing::Listed(count)
 }

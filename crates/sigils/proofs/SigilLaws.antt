@@ -119,7 +119,7 @@ opaque-term t n =
     (λ m e h. absurd (no-other opaque-term-kinds kinds-in-terms _ refl h e))
 
 -- what holds no sigil and no term
-abbrev plain-term-kinds : List ℕ
+abbrev pub plain-term-kinds : List ℕ
 plain-term-kinds = 0 ∷ 1 ∷ 2 ∷ 3 ∷ 4 ∷ 5 ∷ 6 ∷ 7 ∷ 8 ∷ 9 ∷ 10 ∷ 11 ∷ 12 ∷ 13 ∷ 14 ∷ 15 ∷ 16 ∷ 17 ∷ 25 ∷ 28 ∷ []
 
 pub plain-term : (t : ℕ → Tree) (n : NodeNo) (m : Node) → OneOf plain-term-kinds (tagOf the-type m) → sigil-in (planted t n m) ≡ false

@@ -3,13 +3,13 @@
 use mathlib.Core.Path.{_≡_, refl, sym, ap, _∙_, subst}
 use mathlib.Core.Bool.{true}
 use mathlib.Core.List.{List}
-use Prim.Native.Nat.{ℕ, _<_}
+use Prim.Native.Nat.{ℕ, _+_, _-_, _<_}
 use native.Mathlib.Omega.{arith}
 use lib.ListN.{length, getD}
 use Rattle.paper.specs.declared.NodeNo.{NodeNo}
 use Rattle.paper.specs.declared.Node.{Node}
 use Rattle.paper.specs.declared.Node.the-variants.{And, Or, Not, Formerly, Previous, Since, Exists, Comparison, Predicate, Refine, Tp, Call, SigilRef, Var, Wildcard, Literal, ScopeField, ContextField, ParamRef, BinderRef, Array, Arith, Sum, Count, AggregateCall, ListEnd, ArgumentCell, ItemCell, BinderCell}
-use Rattle.paper.specs.Record.{Sort, node-no}
+use Rattle.paper.specs.Record.{Sort, condition, node-no}
 use Rattle.paper.specs.Tree.{Tree, planted, trees}
 use Rattle.paper.specs.Shape.{references, names-in}
 use Rattle.paper.proofs.Walks.{All, all-map, all-both}
@@ -18,7 +18,8 @@ use Rattle.paper.proofs.Forests.{tree-step, tree-same}
 use Rattle.paper.proofs.WellFormed.{WellFormed, well-formed}
 use Rattle.record.specs.Stored.{contents, Has}
 use Rattle.record.proofs.StoredLaws.{by-outcome}
-use Rattle.trees.specs.Trees.{tree-of}
+use Rattle.trees.specs.Trees.{tree-of, is-condition}
+use Rattle.trees.proofs.Sorts.{a-body}
 
 -- a node's tree depends on the trees of its references alone
 planted-same : (t u : ℕ → Tree) (n : NodeNo) (m : Node) → All (λ p. t (p .1) ≡ u (p .1)) (references m) → planted t n m ≡ planted u n m
@@ -98,3 +99,9 @@ module _ (bytes starts : List ℕ) (i : ℕ) (g m : Node) (h : Has bytes starts 
 -- what a call on a child asks for, where the caller's node is t
 pub down : {bytes starts : List ℕ} {i : ℕ} {s : Sort} {k t : ℕ} → Child bytes starts i s k → i ≡ t → (k < t) × Has bytes starts k
 down c e = let f = c .falls in (omega arith, c .has)
+
+-- the last node is a condition
+pub last-body : {bytes starts : List ℕ} {i : ℕ} → Has bytes starts i → length (contents bytes .nodes) ≡ i + 1 → is-condition (tree-of bytes i) ≡ true
+last-body {bytes} {i = i} h e =
+    let f = by-outcome bytes WellFormed (well-formed bytes) i (h .1) in
+    a-body (tree-of bytes i) (ap (λ (k : ℕ). of-sort condition (tree-of bytes k)) (let z : i ≡ length (contents bytes .nodes) - 1 = omega arith in z) ∙ f .rooted)

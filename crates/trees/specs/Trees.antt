@@ -1,5 +1,6 @@
 -- The tree of a node of some bytes, by itself and at a place of its sort. Assumes nothing: these are definitions.
 use Prim.Native.Nat.{ℕ}
+use mathlib.Core.Bool.{Bool, true, false}
 use mathlib.Core.List.{List}
 use Rattle.paper.specs.Tree.{Condition, Term, Arguments, Items, Binders, Tree, a-condition, a-term, arguments, items, binders, an-end, as-condition, as-term, as-arguments, as-binders, tree-at}
 use Rattle.record.specs.Stored.{contents}
@@ -27,3 +28,11 @@ in-terms f g h v (arguments l) = g l
 in-terms f g h v (items l) = h l
 in-terms f g h v (binders l) = v
 in-terms f g h v (an-end n) = v
+
+unfoldable pub is-condition : Tree → Bool
+is-condition (a-condition c) = true
+is-condition (a-term t) = false
+is-condition (arguments l) = false
+is-condition (items l) = false
+is-condition (binders l) = false
+is-condition (an-end n) = false

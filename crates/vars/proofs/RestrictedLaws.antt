@@ -290,7 +290,7 @@ no-arguments t n =
     (λ h. refl) (λ f x l h. absurd (miss no-arguments-kinds 26 tt h)) (λ m e h. refl)
 
 -- Or, Not, Call, SigilRef, and no condition
-abbrev restricts-nothing-kinds : List ℕ
+abbrev pub restricts-nothing-kinds : List ℕ
 restricts-nothing-kinds = 1 ∷ 2 ∷ 11 ∷ 12 ∷ 13 ∷ 14 ∷ 15 ∷ 16 ∷ 17 ∷ 18 ∷ 19 ∷ 20 ∷ 21 ∷ 22 ∷ 23 ∷ 24 ∷ 25 ∷ 26 ∷ 27 ∷ 28 ∷ []
 
 pub restricts-nothing : (t : ℕ → Tree) (n : NodeNo) (m : Node) → OneOf restricts-nothing-kinds (tagOf the-type m) → restricted (as-condition (planted t n m)) ≡ none

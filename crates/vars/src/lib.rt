@@ -1,5 +1,4 @@
-// The restricted names of a condition.
-use free::slot_name;
+// What an equality ties.
 use names::Names;
 use paper::Node;
 use paper::NodeNo;
@@ -7,10 +6,10 @@ use paper::Subject;
 use paper::Tied;
 use record::access::node_at;
 ghost use mathlib.Core.Path.{_≡_};
-ghost use Rattle.paper.specs.FreeAndRestricted.{bare, ties, tied, tied-name, direct, restricted};
+ghost use Rattle.paper.specs.FreeAndRestricted.{bare, ties, tied, tied-name};
 ghost use Rattle.names.specs.Words.{mem};
 ghost use Rattle.record.specs.Stored.{Has};
-ghost use Rattle.trees.specs.Trees.{tree-of, condition-of, term-of, arguments-of};
+ghost use Rattle.trees.specs.Trees.{tree-of, term-of};
 ghost use Rattle.trees.specs.Terms.{wildcard-in};
 
 // Of a term, or of the terms of a list.
@@ -83,27 +82,6 @@ pub fn eq_restricted_var(bytes: &[u8], starts: &[u16; 512], op: u8, l: NodeNo, r
     }
 }
 
-// The names of the arguments that are variables.
-pub fn direct_vars(bytes: &[u8], starts: &[u16; 512], i: NodeNo) -> Names
-    requires { ⌜ Has (now bytes) (now starts) (i .0) ⌝ }
-    ensures { λ r. ⌜ mem r ≡ direct (arguments-of (now (bytes .entry)) (i .0)) ⌝ }
-{
-    let node = node_at(bytes, starts, i);
-    match node {
-        Node::ArgumentCell(_, t, rest) => {
-            let others = direct_vars(bytes, starts, rest);
-            match bare_var(bytes, starts, t) {
-                Subject::Name(x) => {
-                    let own = names::single(x);
-                    names::union(own, others)
-                }
-                Subject::NoName => others,
-            }
-        }
-        _ => names::empty(),
-    }
-}
-
 // The name that a comparison ties.
 pub fn tied_var(bytes: &[u8], starts: &[u16; 512], op: u8, l: NodeNo, r: NodeNo) -> Names
     requires { ⌜ Has (now bytes) (now starts) (l .0) × Has (now bytes) (now starts) (r .0) ⌝ }
@@ -112,36 +90,5 @@ pub fn tied_var(bytes: &[u8], starts: &[u16; 512], op: u8, l: NodeNo, r: NodeNo)
     match eq_restricted_var(bytes, starts, op, l, r) {
         Tied::Left(x) | Tied::Right(x) => names::single(x),
         Tied::Neither => names::empty(),
-    }
-}
-
-pub fn collect_range_restricted(bytes: &[u8], starts: &[u16; 512], i: NodeNo) -> Names
-    requires { ⌜ Has (now bytes) (now starts) (i .0) ⌝ }
-    ensures { λ r. ⌜ mem r ≡ restricted (condition-of (now (bytes .entry)) (i .0)) ⌝ }
-{
-    let node = node_at(bytes, starts, i);
-    match node {
-        Node::And(l, r) => {
-            let left = collect_range_restricted(bytes, starts, l);
-            let right = collect_range_restricted(bytes, starts, r);
-            names::union(left, right)
-        }
-        Node::Predicate(_, arguments) => direct_vars(bytes, starts, arguments),
-        Node::Tp(slot) => slot_name(slot),
-        Node::Comparison(op, l, r) => tied_var(bytes, starts, op, l, r),
-        Node::Formerly(b, _) | Node::Previous(b, _) | Node::Since(_, b, _) => {
-            collect_range_restricted(bytes, starts, b)
-        }
-        Node::Exists(slot, _, b) => {
-            let inner = collect_range_restricted(bytes, starts, b);
-            let bound = slot_name(slot);
-            names::minus(inner, bound)
-        }
-        Node::Refine(b, fields) => {
-            let base = collect_range_restricted(bytes, starts, b);
-            let more = direct_vars(bytes, starts, fields);
-            names::union(base, more)
-        }
-        _ => names::empty(),
     }
 }

@@ -37,19 +37,15 @@ five-here c =
 
 returns : tie.Need-returns
 returns c =
-    wrote-is (five-here (c .before .before .before .before .before .before .before .before .before .before .before .before .before .before .before .before .before
-    .before .before .before)) (wrote-then (c .before .before .before .before .before .before .before .before .before .before .before .before .before .before .before
-    .before .before .before .emit-cells .ensures) (wrote-then (c .before .before .before .before .before .before .before .before .before .before .before .before
-    .before .before .emit .ensures) (wrote-then (c .before .before .before .before .before .before .before .before .before .before .emit2 .ensures) (wrote-then (c
-    .before .before .before .before .before .before .emit-cells2 .ensures) (c .before .before .emit-cells3 .ensures)))))
+    wrote-is (five-here (c .before .before .before .before .before .before .before .before .before .before .before .before .before .before .before .before .before .before .before .before)) (wrote-then (c .before .before .before .before .before .before .before .before .before .before .before .before .before .before .before .before .before .before .emit-cells .ensures) (wrote-then (c .before .before .before .before .before .before .before .before .before .before .before .before .before .before .emit .ensures) (wrote-then (c .before .before .before .before .before .before .before .before .before .before .emit2 .ensures) (wrote-then (c .before .before .before .before .before .before .emit-cells2 .ensures) (c .before .before .emit-cells3 .ensures)))))
 
 pub check-aggregation-spec : {M : Type 1} → statement M
 check-aggregation-spec =
     tie.close
     (tie.spec
     (λ c κs. c .before .before .pre .0 .0)
-    (λ c κs. c .before .before .before .pre .0 .1)
-    (λ c κs. c .before .before .before .before .pre .0 .1)
+    (λ c κs. let s = c .before .before .before .pre .0 in (s .1, s .2, s .3))
+    (λ c κs. let s = c .before .before .before .before .pre .0 in (s .1, s .2, s .3))
     (λ c κs. search needs)
     (λ c κs. search needs)
     (λ c κs. search needs)
@@ -57,66 +53,51 @@ check-aggregation-spec =
     (λ c κs. search needs)
     (λ c κs. (
       c .before .before .before .before .before .before .before .before .before .before .before .pre .0 .0,
-      room-first _ _ (room-is (five-here (c .before)) (c
-          .before .before .before .before .before .before .before .before .before .before .before .pre .1)),
+      room-first _ _ (room-is (five-here (c .before)) (c .before .before .before .before .before .before .before .before .before .before .before .pre .1)),
     ))
     (λ c κs. room-first _ _ (room-rest _ _ (c .before .before .before .emit-cells .ensures) (omega (arith, c .before .before .before .emit-cells .ensures .total))
-    (room-is (five-here (c .before .before .before .before .before)) (c .before .before .before .before .before .before .before .before .before .before .before
-    .before .before .before .before .pre .1))))
+    (room-is (five-here (c .before .before .before .before .before)) (c .before .before .before .before .before .before .before .before .before .before .before .before .before .before .before .pre .1))))
     (λ c κs. room-first _ _ (room-rest _ _ (c .before .before .before .emit .ensures) (omega (
       arith,
       c .before .before .before .emit .ensures .total,
-      c .before .before
-          .before .before .before .before .before .emit-cells .ensures .total,
+      c .before .before .before .before .before .before .before .emit-cells .ensures .total,
     )) (room-rest _ _ (c .before .before .before .before .before .before .before .emit-cells
     .ensures) (omega (
       arith,
       c .before .before .before .emit .ensures .total,
       c .before .before .before .before .before .before .before .emit-cells .ensures
           .total,
-    )) (room-is (five-here (c .before .before .before .before .before .before .before .before .before)) (c .before .before .before .before .before .before
-    .before .before .before .before .before .before .before .before .before .before .before .before .before .pre .1)))))
+    )) (room-is (five-here (c .before .before .before .before .before .before .before .before .before)) (c .before .before .before .before .before .before .before .before .before .before .before .before .before .before .before .before .before .before .before .pre .1)))))
     (λ c κs. (
-      c .before .before .before .before .before .before .before .before .before .before .before .before .before .before .before .before .before .before .before
-          .before .before .before .before .pre .0 .0,
+      c .before .before .before .before .before .before .before .before .before .before .before .before .before .before .before .before .before .before .before .before .before .before .before .pre .0 .0,
       room-first _ _ (room-rest _ _ (c .before .before .before .emit2 .ensures) (omega (
         arith,
         c .before .before .before
             .emit2 .ensures .total,
         c .before .before .before .before .before .before .before .emit .ensures .total,
-        c .before .before .before .before .before .before
-            .before .before .before .before .before .emit-cells .ensures .total,
+        c .before .before .before .before .before .before .before .before .before .before .before .emit-cells .ensures .total,
       )) (room-rest _ _ (c .before .before .before .before .before .before .before .emit .ensures)
           (omega (
             arith,
             c .before .before .before .emit2 .ensures .total,
             c .before .before .before .before .before .before .before .emit .ensures .total,
-            c .before
-                .before .before .before .before .before .before .before .before .before .before .emit-cells .ensures .total,
-          )) (room-rest _ _ (c .before .before .before .before
-          .before .before .before .before .before .before .before .emit-cells .ensures) (omega (
+            c .before .before .before .before .before .before .before .before .before .before .before .emit-cells .ensures .total,
+          )) (room-rest _ _ (c .before .before .before .before .before .before .before .before .before .before .before .emit-cells .ensures) (omega (
             arith,
             c .before .before .before .emit2 .ensures .total,
-            c .before .before
-                .before .before .before .before .before .emit .ensures .total,
-            c .before .before .before .before .before .before .before .before .before .before .before
-                .emit-cells .ensures .total,
+            c .before .before .before .before .before .before .before .emit .ensures .total,
+            c .before .before .before .before .before .before .before .before .before .before .before .emit-cells .ensures .total,
           )) (room-is (five-here (c .before .before .before .before .before .before .before .before .before .before .before .before .before))
-          (c .before .before .before .before .before .before .before .before .before .before .before .before .before .before .before .before .before .before .before
-          .before .before .before .before .pre .1))))),
+          (c .before .before .before .before .before .before .before .before .before .before .before .before .before .before .before .before .before .before .before .before .before .before .before .pre .1))))),
     ))
     (λ c κs. (
-      c .before .before .before .before .before .before .before .before .before .before .before .before .before .before .before .before .before .before .before
-          .before .before .before .before .before .before .before .before .pre .0 .0,
+      c .before .before .before .before .before .before .before .before .before .before .before .before .before .before .before .before .before .before .before .before .before .before .before .before .before .before .before .pre .0 .0,
       room-rest _ _ (c .before .before .before .emit-cells2 .ensures) (omega (
         arith,
-        c
-            .before .before .before .emit-cells2 .ensures .total,
+        c .before .before .before .emit-cells2 .ensures .total,
         c .before .before .before .before .before .before .before .emit2 .ensures .total,
-        c .before .before
-            .before .before .before .before .before .before .before .before .before .emit .ensures .total,
-        c .before .before .before .before .before .before .before .before
-            .before .before .before .before .before .before .before .emit-cells .ensures .total,
+        c .before .before .before .before .before .before .before .before .before .before .before .emit .ensures .total,
+        c .before .before .before .before .before .before .before .before .before .before .before .before .before .before .before .emit-cells .ensures .total,
       )) (room-rest _ _ (c .before .before .before .before .before .before .before
           .emit2 .ensures) (omega (
             arith,
@@ -124,31 +105,21 @@ check-aggregation-spec =
             c .before .before .before .before .before .before .before .emit2
                 .ensures .total,
             c .before .before .before .before .before .before .before .before .before .before .before .emit .ensures .total,
-            c .before .before .before
-                .before .before .before .before .before .before .before .before .before .before .before .before .emit-cells .ensures .total,
-          )) (room-rest _ _ (c .before .before
-          .before .before .before .before .before .before .before .before .before .emit .ensures) (omega (
+            c .before .before .before .before .before .before .before .before .before .before .before .before .before .before .before .emit-cells .ensures .total,
+          )) (room-rest _ _ (c .before .before .before .before .before .before .before .before .before .before .before .emit .ensures) (omega (
             arith,
             c .before .before .before .emit-cells2 .ensures .total,
-            c
-                .before .before .before .before .before .before .before .emit2 .ensures .total,
-            c .before .before .before .before .before .before .before .before .before
-                .before .before .emit .ensures .total,
-            c .before .before .before .before .before .before .before .before .before .before .before .before .before .before .before
-                .emit-cells .ensures .total,
-          )) (room-rest _ _ (c .before .before .before .before .before .before .before .before .before .before .before .before .before .before
-          .before .emit-cells .ensures) (omega (
+            c .before .before .before .before .before .before .before .emit2 .ensures .total,
+            c .before .before .before .before .before .before .before .before .before .before .before .emit .ensures .total,
+            c .before .before .before .before .before .before .before .before .before .before .before .before .before .before .before .emit-cells .ensures .total,
+          )) (room-rest _ _ (c .before .before .before .before .before .before .before .before .before .before .before .before .before .before .before .emit-cells .ensures) (omega (
             arith,
             c .before .before .before .emit-cells2 .ensures .total,
             c .before .before .before .before .before .before .before
                 .emit2 .ensures .total,
             c .before .before .before .before .before .before .before .before .before .before .before .emit .ensures .total,
-            c .before .before
-                .before .before .before .before .before .before .before .before .before .before .before .before .before .emit-cells .ensures .total,
-          )) (room-is (five-here (c
-          .before .before .before .before .before .before .before .before .before .before .before .before .before .before .before .before .before)) (c .before .before
-          .before .before .before .before .before .before .before .before .before .before .before .before .before .before .before .before .before .before .before .before
-          .before .before .before .before .before .pre .1))))),
+            c .before .before .before .before .before .before .before .before .before .before .before .before .before .before .before .emit-cells .ensures .total,
+          )) (room-is (five-here (c .before .before .before .before .before .before .before .before .before .before .before .before .before .before .before .before .before)) (c .before .before .before .before .before .before .before .before .before .before .before .before .before .before .before .before .before .before .before .before .before .before .before .before .before .before .before .pre .1))))),
     ))
     (λ c. search needs)
     returns)

@@ -18,7 +18,7 @@ returns-2 c =
 check-chain-requires : tie.Need-check-chain-requires
 check-chain-requires c κs =
     let asked = c .before in (
-      asked .before .before .before .before .before .pre .0,
+      (let s = asked .before .before .before .before .before .pre .0 in (s .0, s .1)),
       room-is (demands-are _ (asked .empty .ensures) (sym (asked .before .before .body-has-sigil .ensures) ∙ asked .before .if1 .left))
           (asked .before .before .before .before .before .pre .1),
     )
@@ -26,4 +26,4 @@ check-chain-requires c κs =
 pub check-demands-spec : {M : Type 1} → statement M
 check-demands-spec =
     tie.close
-    (tie.spec (λ c κs. c .before .before .pre .0) returns (λ c κs. search needs) check-chain-requires (λ c. search needs) returns-2)
+    (tie.spec (λ c κs. let s = c .before .before .pre .0 in (s .0 .1, s .1, s .2)) returns (λ c κs. search needs) check-chain-requires (λ c. search needs) returns-2)

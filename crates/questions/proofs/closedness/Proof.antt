@@ -2,7 +2,7 @@
 use mathlib.Core.Path.{sym, ap, _∙_}
 use borrow.Author.Needs.{needs}
 use Rattle.questions.specs.Passed.{answer-passed}
-use Rattle.questions.proofs.Asked.{closedness-refused, some-root, has-root, closedness-room, closedness-told}
+use Rattle.questions.proofs.Asked.{closedness-refused, some-root, last-root, closedness-room, closedness-told}
 use Rattle.questions.proofs.closedness.Statement.{statement}
 use Rattle.questions.proofs.closedness.Tie as tie
 
@@ -10,12 +10,12 @@ returns : tie.Need-returns
 unfolding answer-passed
 returns c =
     let refusal = c .before .enum-told .given .1 in
-    c .passed-answer .ensures ∙ ap answer-passed refusal ∙ sym (closedness-refused _ _ (c .before .before .before .before .read .ensures) refusal)
+    c .passed-answer .ensures ∙ ap answer-passed refusal ∙ sym (closedness-refused _ _ (c .before .before .before .read .ensures) refusal)
 
 returns-2 : tie.Need-returns-2
 returns-2 c =
-    c .first .ensures ∙ closedness-told _ _ (c .before .before .before .before .before .before .before .before .before .before .before .read .ensures) (c .before
-    .before .before .before .before .before .before .before .v .given .1) _ (c .before .before .before .before .root .ensures) (c .before .before .check-leaf-closed
+    c .first .ensures ∙ closedness-told _ _ (c .before .before .before .before .before .before .before .before .before .before .read .ensures) (c .before
+    .before .before .before .before .before .before .before .v .given .1) _ (c .before .before .before .before .root .ensures) (c .before .before .open-entries
     .ensures)
 
 pub closedness-spec : {M : Type 1} → statement M
@@ -27,12 +27,12 @@ closedness-spec =
     (λ c. search needs)
     (λ c κs. search needs)
     returns
-    (λ c κs. some-root _ _ (c .before .before .before .before .before .before .read .ensures) (c .before .before .before .v .given .1))
+    (λ c κs. some-root _ _ (c .before .before .before .before .before .read .ensures) (c .before .before .before .v .given .1))
     (λ c. search needs)
     (λ c κs. (
-      has-root _ _ (c .before .before .before .before .before .before .before .before .read .ensures) (c .before .before .before .before .before .v .given .1) _
+      last-root _ _ (c .before .before .before .before .before .before .before .read .ensures) (c .before .before .before .before .before .v .given .1) _
           (c .before .root .ensures),
-      closedness-room _ _ (c .before .before .before .before .before .before .before .before .read .ensures) (c .before .before .before
+      closedness-room _ _ (c .before .before .before .before .before .before .before .read .ensures) (c .before .before .before
           .before .before .v .given .1) _ (c .before .root .ensures),
     ))
     (λ c. search needs)

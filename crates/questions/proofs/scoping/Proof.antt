@@ -2,7 +2,7 @@
 use mathlib.Core.Path.{sym, ap, _∙_}
 use borrow.Author.Needs.{needs}
 use Rattle.questions.specs.Passed.{answer-passed}
-use Rattle.questions.proofs.Asked.{scoping-refused, some-root, has-root, scoping-room, scoping-told}
+use Rattle.questions.proofs.Asked.{scoping-refused, some-root, last-root, scoping-room, scoping-told}
 use Rattle.questions.proofs.scoping.Statement.{statement}
 use Rattle.questions.proofs.scoping.Tie as tie
 
@@ -10,13 +10,13 @@ returns : tie.Need-returns
 unfolding answer-passed
 returns c =
     let refusal = c .before .enum-told .given .1 in
-    c .passed-answer .ensures ∙ ap answer-passed refusal ∙ sym (scoping-refused _ _ (c .before .before .before .before .read .ensures) refusal _)
+    c .passed-answer .ensures ∙ ap answer-passed refusal ∙ sym (scoping-refused _ _ (c .before .before .before .read .ensures) refusal _)
 
 returns-2 : tie.Need-returns-2
 returns-2 c =
-    c .first .ensures ∙ scoping-told _ _ (c .before .before .before .before .before .before .before .before .before .before .before .before .read .ensures) (c .before
+    c .first .ensures ∙ scoping-told _ _ (c .before .before .before .before .before .before .before .before .before .before .before .read .ensures) (c .before
     .before .before .before .before .before .before .before .before .v .given .1) _ (c .before .before .before .before .root .ensures) _ (c .before .before
-    .check-condition .ensures)
+    .scoping-entries .ensures)
 
 pub scoping-spec : {M : Type 1} → statement M
 scoping-spec =
@@ -27,12 +27,12 @@ scoping-spec =
     (λ c. search needs)
     (λ c κs. search needs)
     returns
-    (λ c κs. some-root _ _ (c .before .before .before .before .before .before .before .read .ensures) (c .before .before .before .before .v .given .1))
+    (λ c κs. some-root _ _ (c .before .before .before .before .before .before .read .ensures) (c .before .before .before .before .v .given .1))
     (λ c. search needs)
     (λ c κs. (
-      has-root _ _ (c .before .before .before .before .before .before .before .before .before .read .ensures) (c .before .before .before .before .before .before
+      last-root _ _ (c .before .before .before .before .before .before .before .before .read .ensures) (c .before .before .before .before .before .before
           .v .given .1) _ (c .before .root .ensures),
-      scoping-room _ _ (c .before .before .before .before .before .before .before .before .before .read .ensures) (c
+      scoping-room _ _ (c .before .before .before .before .before .before .before .before .read .ensures) (c
           .before .before .before .before .before .before .v .given .1) _ (c .before .root .ensures) _,
     ))
     (λ c. search needs)

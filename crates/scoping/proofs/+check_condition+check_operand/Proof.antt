@@ -8,12 +8,14 @@ use borrow.Author.Needs.{needs}
 use Rattle.paper.specs.declared.Node.{Node}
 use Rattle.paper.specs.declared.Node.the-variants as node
 use Rattle.paper.specs.Sets.{_∪_}
-use Rattle.trees.proofs.Arms.{Arm, arm, down}
+use Rattle.trees.proofs.Arms.{Arm, arm}
+use Rattle.facts.proofs.NotedLaws.{under}
 use Rattle.trees.proofs.Shapes.{Two, Plain, Aggregate, not, sum, count, of-two, of-plain, of-aggregate, met₁, met₂}
 use Rattle.trees.proofs.Shapes.Two.{and as two-and, or, since}
 use Rattle.trees.proofs.Shapes.One.{formerly, previous}
 use Rattle.trees.proofs.Shapes.Plain.{one, refine}
 use Rattle.trees.proofs.Joins.{two-law, plain-law}
+use Rattle.trees.proofs.Sorts.{a-body}
 use Rattle.free.proofs.FreeLaws.{slot-tabled}
 use Rattle.writes.proofs.WriteLaws.{wrote-none, wrote-then, wrote-is, room-is, room-first, room-rest}
 use Rattle.scoping.proofs.ScopingLaws.{scoped-two, scoped-one, scoped-refine, scoped-comparison, scoped-predicate, scoped-tp, scoped-exists, scoped-arith, scoped-array, scoped-skipped, scoped-aggregate, scoped-none, operand-none}
@@ -38,23 +40,23 @@ use Rattle.record.proofs.access.node_at.Reads as node-at-reads
 use Rattle.scoping.proofs.+check_condition+check_operand.{statement}
 use Rattle.scoping.proofs.+check_condition+check_operand.Tie.{close}
 
-abbrev μ-condition : Measures 3 check-condition-kinds.ps ℕ
-μ-condition κs a = a .1 .1 .0 .0
+abbrev μ-condition : Measures 4 check-condition-kinds.ps ℕ
+μ-condition κs a = a .1 .1 .1 .0 .0
 
-abbrev condition-at : ℕ → In 3 check-condition-kinds.ps
-condition-at t = and 3 check-condition-kinds.ps (is 3 check-condition-kinds.ps μ-condition t) check-condition.Pre
+abbrev condition-at : ℕ → In 4 check-condition-kinds.ps
+condition-at t = and 4 check-condition-kinds.ps (is 4 check-condition-kinds.ps μ-condition t) check-condition.Pre
 
-abbrev condition-below : ℕ → In 3 check-condition-kinds.ps
-condition-below t = and 3 check-condition-kinds.ps (falls 3 check-condition-kinds.ps _<_ μ-condition t) check-condition.Pre
+abbrev condition-below : ℕ → In 4 check-condition-kinds.ps
+condition-below t = and 4 check-condition-kinds.ps (falls 4 check-condition-kinds.ps _<_ μ-condition t) check-condition.Pre
 
-abbrev μ-operand : Measures 3 check-operand-kinds.ps ℕ
-μ-operand κs a = a .1 .1 .0 .0
+abbrev μ-operand : Measures 4 check-operand-kinds.ps ℕ
+μ-operand κs a = a .1 .1 .1 .0 .0
 
-abbrev operand-at : ℕ → In 3 check-operand-kinds.ps
-operand-at t = and 3 check-operand-kinds.ps (is 3 check-operand-kinds.ps μ-operand t) check-operand.Pre
+abbrev operand-at : ℕ → In 4 check-operand-kinds.ps
+operand-at t = and 4 check-operand-kinds.ps (is 4 check-operand-kinds.ps μ-operand t) check-operand.Pre
 
-abbrev operand-below : ℕ → In 3 check-operand-kinds.ps
-operand-below t = and 3 check-operand-kinds.ps (falls 3 check-operand-kinds.ps _<_ μ-operand t) check-operand.Pre
+abbrev operand-below : ℕ → In 4 check-operand-kinds.ps
+operand-below t = and 4 check-operand-kinds.ps (falls 4 check-operand-kinds.ps _<_ μ-operand t) check-operand.Pre
 
 abbrev condition-claims : ℕ → check-condition-lts.Claims
 condition-claims t = (
@@ -98,11 +100,11 @@ operand-claims t = (
 
 condition-arm : (t : ℕ) (c : check-condition-lts.After-node-at (condition-claims t) (condition-at t) check-condition.Post) {m : Node} → c .node-at .result ≡ m
     → Arm (now (c .before .before .before .args .bytes)) (now (c .before .before .before .args .starts)) (c .before .before .before .args .i .0) m
-condition-arm t c p = arm _ _ _ _ _ (c .before .before .before .pre .1 .0) (c .node-at .ensures) p
+condition-arm t c p = arm _ _ _ _ _ (c .before .before .before .pre .1 .0 .0) (c .node-at .ensures) p
 
 operand-arm : (t : ℕ) (c : check-operand-lts.After-node-at (operand-claims t) (operand-at t) check-operand.Post) {m : Node} → c .node-at .result ≡ m
     → Arm (now (c .before .before .before .args .bytes)) (now (c .before .before .before .args .starts)) (c .before .before .before .args .i .0) m
-operand-arm t c p = arm _ _ _ _ _ (c .before .before .before .pre .1 .0) (c .node-at .ensures) p
+operand-arm t c p = arm _ _ _ _ _ (c .before .before .before .pre .1 .0 .0) (c .node-at .ensures) p
 
 passes : (t : ℕ) (c : check-condition-lts.At-match-came (condition-claims t) (condition-at t) check-condition.Post) → Plain (c .match .b) (c .before .node-at .result)
 passes t c =
@@ -112,8 +114,7 @@ passes t c =
     (λ w. met₁ Plain (λ b. node.Refine b (w .1 .given .0 .1 .0)) (λ b. refine) (w .1 .given .1) (w .3))))
     (c .match .came)
 
-joins : (t : ℕ) (c : check-condition-lts.At-match-came-2 (condition-claims t) (condition-at t) check-condition.Post) → Two (c .match .l) (c .match .r) (c .before
-    .node-at .result)
+joins : (t : ℕ) (c : check-condition-lts.At-match-came-2 (condition-claims t) (condition-at t) check-condition.Post) → Two (c .match .l) (c .match .r) (c .before .node-at .result)
 joins t c =
     ⊎-elim (λ w. met₂ Two node.And (λ l r. two-and) (w .1 .given .1) (w .3) (w .4))
     (⊎-elim (λ w. met₂ Two node.Or (λ l r. or) (w .1 .given .1) (w .3) (w .4))
@@ -130,21 +131,16 @@ gathers t c =
 condition-returns : (t : ℕ) → check-condition-lts.Need-returns (condition-claims t) (condition-at t) check-condition.Post
 condition-returns t c =
     wrote-is (scoped-exists _ _ (c .before .before .before .before .union .ensures ∙ ap₂ _∪_ refl (c .before .before .before .before .before .slot-name .ensures))
-    (condition-arm t (c .before .before .before .before .before .before .before .before .before .before .before .before .before .before .before .before .before) (c
-    .before .before .before .before .before .before .before .before .before .before .before .before .before .before .before .node8 .given .1))) (wrote-then (c
-    .before .before .before .before .before .before .before .before .before .before .before .before .reject-reserved-binder .ensures) (wrote-then (c .before .before
-    .before .before .before .before .before .before .check-exists-safe .ensures) (c .before .before .check-condition .ensures)))
+    (condition-arm t (c .before .before .before .before .before .before .before .before .before .before .before .before .before .before .before .before .before) (c .before .before .before .before .before .before .before .before .before .before .before .before .before .before .before .node8 .given .1))) (wrote-then (c .before .before .before .before .before .before .before .before .before .before .before .before .reject-reserved-binder .ensures) (wrote-then (c .before .before .before .before .before .before .before .before .check-exists-safe .ensures) (c .before .before .check-condition .ensures)))
 
 condition-returns-2 : (t : ℕ) → check-condition-lts.Need-returns-2 (condition-claims t) (condition-at t) check-condition.Post
 condition-returns-2 t c =
-    wrote-is (scoped-comparison _ _ (condition-arm t (c .before .before .before .before .before .before .before .before .before .before .before) (c .before .before
-    .before .before .before .before .before .before .before .node9 .given .1))) (wrote-then (c .before .before .before .before .before .before .check-operand
+    wrote-is (scoped-comparison _ _ (condition-arm t (c .before .before .before .before .before .before .before .before .before .before .before) (c .before .before .before .before .before .before .before .before .before .node9 .given .1))) (wrote-then (c .before .before .before .before .before .before .check-operand
     .ensures) (c .before .before .check-operand2 .ensures))
 
 condition-returns-3 : (t : ℕ) → check-condition-lts.Need-returns-3 (condition-claims t) (condition-at t) check-condition.Post
 condition-returns-3 t c =
-    wrote-is (scoped-predicate _ _ (condition-arm t (c .before .before .before .before .before .before .before) (c .before .before .before .before .before .node10
-    .given .1))) (c .before .before .reject-nested-agg .ensures)
+    wrote-is (scoped-predicate _ _ (condition-arm t (c .before .before .before .before .before .before .before) (c .before .before .before .before .before .node10 .given .1))) (c .before .before .reject-nested-agg .ensures)
 
 condition-returns-4 : (t : ℕ) → check-condition-lts.Need-returns-4 (condition-claims t) (condition-at t) check-condition.Post
 condition-returns-4 t c =
@@ -162,9 +158,7 @@ condition-returns-6 t c =
 
 condition-returns-7 : (t : ℕ) → check-condition-lts.Need-returns-7 (condition-claims t) (condition-at t) check-condition.Post
 condition-returns-7 t c =
-    wrote-is (two-law (scoped-two _ _) (joins t (c .before .before .before .before .before .before .before .before)) (condition-arm t (c .before .before .before .before
-    .before .before .before .before .before) refl)) (wrote-then (c .before .before .before .before .before .before .check-condition3 .ensures) (c .before .before
-    .check-condition4 .ensures))
+    wrote-is (two-law (scoped-two _ _) (joins t (c .before .before .before .before .before .before .before .before)) (condition-arm t (c .before .before .before .before .before .before .before .before .before) refl)) (wrote-then (c .before .before .before .before .before .before .check-condition3 .ensures) (c .before .before .check-condition4 .ensures))
 
 operand-returns : (t : ℕ) → check-operand-lts.Need-returns (operand-claims t) (operand-at t) check-operand.Post
 operand-returns t c =
@@ -172,9 +166,7 @@ operand-returns t c =
 
 operand-returns-2 : (t : ℕ) → check-operand-lts.Need-returns-2 (operand-claims t) (operand-at t) check-operand.Post
 operand-returns-2 t c =
-    wrote-is (scoped-arith _ _ (operand-arm t (c .before .before .before .before .before .before .before .before .before .before .before) (c .before .before .before
-    .before .before .before .before .before .before .node .given .1))) (wrote-then (c .before .before .before .before .before .before .check-operand .ensures) (c
-    .before .before .check-operand2 .ensures))
+    wrote-is (scoped-arith _ _ (operand-arm t (c .before .before .before .before .before .before .before .before .before .before .before) (c .before .before .before .before .before .before .before .before .before .node .given .1))) (wrote-then (c .before .before .before .before .before .before .check-operand .ensures) (c .before .before .check-operand2 .ensures))
 
 operand-returns-3 : (t : ℕ) → check-operand-lts.Need-returns-3 (operand-claims t) (operand-at t) check-operand.Post
 operand-returns-3 t c =
@@ -187,17 +179,13 @@ operand-returns-4 t c =
 
 operand-returns-5 : (t : ℕ) → check-operand-lts.Need-returns-5 (operand-claims t) (operand-at t) check-operand.Post
 operand-returns-5 t c =
-    wrote-is (scoped-aggregate _ _ (gathers t (c .before .before .before .before .before .before .before .before .before .before .before .before)) (c .before .before
-    .before .before .union .ensures ∙ ap₂ _∪_ refl (c .before .before .before .before .before .binder-names .ensures)) (operand-arm t (c .before .before .before
-    .before .before .before .before .before .before .before .before .before .before) refl) (sym (c .before .before .before .before .before .before .before .before
-    .before .before .before .is-skipped .ensures) ∙ c .before .before .before .before .before .before .before .before .before .before .if1 .left)) (wrote-then (c
-    .before .before .before .before .before .before .before .before .check-agg-expr .ensures) (c .before .before .check-condition .ensures))
+    wrote-is (scoped-aggregate _ _ (gathers t (c .before .before .before .before .before .before .before .before .before .before .before .before)) (c .before .before .before .before .union .ensures ∙ ap₂ _∪_ refl (c .before .before .before .before .before .binder-names .ensures)) (operand-arm t (c .before .before .before .before .before .before .before .before .before .before .before .before .before) refl) (sym (c .before .before .before .before .before .before .before .before .before .before .before .is-skipped .ensures) ∙ c .before .before .before .before .before .before .before .before .before .before .if1 .left)) (wrote-then (c .before .before .before .before .before .before .before .before .check-agg-expr .ensures) (c .before .before .check-condition .ensures))
 
 pub +check-condition+check-operand-spec : {M : Type 1} → statement M
 +check-condition+check-operand-spec =
     close μ-condition μ-operand
     (λ t. check-condition-lts.spec (condition-claims t) (condition-at t) check-condition.Post
-    (λ c κs. c .before .before .pre .1 .0)
+    (λ c κs. c .before .before .pre .1 .0 .0)
     (λ c. search needs)
     (λ c. search needs)
     (λ c. search needs)
@@ -207,60 +195,47 @@ pub +check-condition+check-operand-spec : {M : Type 1} → statement M
     (λ c. search needs)
     (λ c. search needs)
     (λ c κs. let a = condition-arm t (c .before .before .before .before) (c .before .before .node8 .given .1) in (
-      slot-tabled (c .before .before .node8 .given .0 .0) (a
-          .tabled),
+      slot-tabled (c .before .before .node8 .given .0 .0) (a .tabled),
       room-first _ _ (room-is (scoped-exists _ _ refl a) (c .before .before .before .before .before .before .before .pre .1 .1)),
     ))
-    (λ c κs. let a = condition-arm t (c .before .before .before .before .before .before .before .before) (c .before .before .before .before .before .before .node8
-    .given .1) in (
-      (slot-tabled (c .before .before .before .before .before .before .node8 .given .0 .0) (a .tabled), a .children .0 .has),
+    (λ c κs. let a = condition-arm t (c .before .before .before .before .before .before .before .before) (c .before .before .before .before .before .before .node8 .given .1) in (
+      (slot-tabled (c .before .before .before .before .before .before .node8 .given .0 .0) (a .tabled), a .children .0 .has .1, c .before .before .before .before .before .before .before .before .before .before .before .pre .1 .0 .1, a-body _ (a .children .0 .fits)),
       room-first _ _ (room-rest
           _ _ (c .before .before .before .reject-reserved-binder .ensures) (omega (arith, c .before .before .before .reject-reserved-binder .ensures .total)) (room-is
           (scoped-exists _ _ refl a) (c .before .before .before .before .before .before .before .before .before .before .before .pre .1 .1))),
     ))
-    (λ c κs. slot-tabled (c .before .before .before .before .before .before .before .before .before .node8 .given .0 .0) (condition-arm t (c .before .before .before
-    .before .before .before .before .before .before .before .before) (c .before .before .before .before .before .before .before .before .before .node8 .given .1)
+    (λ c κs. slot-tabled (c .before .before .before .before .before .before .before .before .before .node8 .given .0 .0) (condition-arm t (c .before .before .before .before .before .before .before .before .before .before .before) (c .before .before .before .before .before .before .before .before .before .node8 .given .1)
     .tabled))
     (λ c κs. search needs)
-    (λ c κs. let a = condition-arm t (c .before .before .before .before .before .before .before .before .before .before .before .before .before .before) (c .before
-    .before .before .before .before .before .before .before .before .before .before .before .node8 .given .1) in let d = down (a .children .0) (c .before .before
-    .before .before .before .before .before .before .before .before .before .before .before .before .before .before .before .pre .0) in (
+    (λ c κs. let a = condition-arm t (c .before .before .before .before .before .before .before .before .before .before .before .before .before .before) (c .before .before .before .before .before .before .before .before .before .before .before .before .node8 .given .1) in let d = under (a .children .0) (c .before .before .before .before .before .before .before .before .before .before .before .before .before .before .before .before .before .pre .0) (c .before .before .before .before .before .before .before .before .before .before .before .before .before .before .before .before .before .pre .1 .0 .1) in (
       d .0,
       (
         d .1,
         room-rest _ _
             (c .before .before .before .before .before .check-exists-safe .ensures) (omega (
               arith,
-              c .before .before .before .before .before .check-exists-safe .ensures
-                  .total,
+              c .before .before .before .before .before .check-exists-safe .ensures .total,
               c .before .before .before .before .before .before .before .before .before .reject-reserved-binder .ensures .total,
-            )) (room-rest _ _ (c .before .before
-            .before .before .before .before .before .before .before .reject-reserved-binder .ensures) (omega (
+            )) (room-rest _ _ (c .before .before .before .before .before .before .before .before .before .reject-reserved-binder .ensures) (omega (
               arith,
-              c .before .before .before .before .before
-                  .check-exists-safe .ensures .total,
+              c .before .before .before .before .before .check-exists-safe .ensures .total,
               c .before .before .before .before .before .before .before .before .before .reject-reserved-binder .ensures .total,
             )) (room-is
-            (scoped-exists _ _ (c .before .union .ensures ∙ ap₂ _∪_ refl (c .before .before .slot-name .ensures)) a) (c .before .before .before .before .before .before
-            .before .before .before .before .before .before .before .before .before .before .before .pre .1 .1))),
+            (scoped-exists _ _ (c .before .union .ensures ∙ ap₂ _∪_ refl (c .before .before .slot-name .ensures)) a) (c .before .before .before .before .before .before .before .before .before .before .before .before .before .before .before .before .before .pre .1 .1))),
       ),
     ))
     (λ c. search needs)
-    (λ c κs. let a = condition-arm t (c .before .before .before .before) (c .before .before .node9 .given .1) in let d = down (a .children .0) (c .before .before
-    .before .before .before .before .before .pre .0) in (
+    (λ c κs. let a = condition-arm t (c .before .before .before .before) (c .before .before .node9 .given .1) in let d = under (a .children .0) (c .before .before .before .before .before .before .before .pre .0) (c .before .before .before .before .before .before .before .pre .1 .0 .1) in (
       d .0,
       (
         d .1,
-        room-first _ _ (room-is (scoped-comparison _ _ a) (c .before .before .before .before .before
-            .before .before .pre .1 .1)),
+        room-first _ _ (room-is (scoped-comparison _ _ a) (c .before .before .before .before .before .before .before .pre .1 .1)),
       ),
     ))
-    (λ c κs. let a = condition-arm t (c .before .before .before .before .before .before .before .before) (c .before .before .before .before .before .before .node9
-    .given .1) in let d = down (a .children .1 .0) (c .before .before .before .before .before .before .before .before .before .before .before .pre .0) in (
+    (λ c κs. let a = condition-arm t (c .before .before .before .before .before .before .before .before) (c .before .before .before .before .before .before .node9 .given .1) in let d = under (a .children .1 .0) (c .before .before .before .before .before .before .before .before .before .before .before .pre .0) (c .before .before .before .before .before .before .before .before .before .before .before .pre .1 .0 .1) in (
       d .0,
       (
-        d
-            .1,
+        d .1,
         room-rest _ _ (c .before .before .before .check-operand .ensures) (omega (arith, c .before .before .before .check-operand .ensures .total)) (room-is
             (scoped-comparison _ _ a) (c .before .before .before .before .before .before .before .before .before .before .before .pre .1 .1)),
       ),
@@ -277,18 +252,15 @@ pub +check-condition+check-operand-spec : {M : Type 1} → statement M
           (a .tabled),
       room-is (scoped-tp _ _ a) (c .before .before .before .before .before .before .before .pre .1 .1),
     ))
-    (λ c κs. let a = condition-arm t (c .before .before) refl in let d = down (of-plain (passes t (c .before)) a) (c .before .before .before .before .before .pre .0) in
+    (λ c κs. let a = condition-arm t (c .before .before) refl in let d = under (of-plain (passes t (c .before)) a) (c .before .before .before .before .before .pre .0) (c .before .before .before .before .before .pre .1 .0 .1) in
     (d .0, (d .1, room-is (plain-law (scoped-one _ _) (scoped-refine _ _) (passes t (c .before)) a) (c .before .before .before .before .before .pre .1 .1))))
-    (λ c κs. let a = condition-arm t (c .before .before) refl in let d = down (of-two (joins t (c .before)) a .0) (c .before .before .before .before .before .pre .0) in
+    (λ c κs. let a = condition-arm t (c .before .before) refl in let d = under (of-two (joins t (c .before)) a .0) (c .before .before .before .before .before .pre .0) (c .before .before .before .before .before .pre .1 .0 .1) in
     (d .0, (d .1, room-first _ _ (room-is (two-law (scoped-two _ _) (joins t (c .before)) a) (c .before .before .before .before .before .pre .1 .1)))))
-    (λ c κs. let a = condition-arm t (c .before .before .before .before .before .before) refl in let d = down (of-two (joins t (c .before .before .before .before
-    .before)) a .1) (c .before .before .before .before .before .before .before .before .before .pre .0) in (
+    (λ c κs. let a = condition-arm t (c .before .before .before .before .before .before) refl in let d = under (of-two (joins t (c .before .before .before .before .before)) a .1) (c .before .before .before .before .before .before .before .before .before .pre .0) (c .before .before .before .before .before .before .before .before .before .pre .1 .0 .1) in (
       d .0,
       (
         d .1,
-        room-rest _ _ (c .before .before .before
-            .check-condition3 .ensures) (omega (arith, c .before .before .before .check-condition3 .ensures .total)) (room-is (two-law (scoped-two _ _) (joins t (c .before
-            .before .before .before .before)) a) (c .before .before .before .before .before .before .before .before .before .pre .1 .1)),
+        room-rest _ _ (c .before .before .before .check-condition3 .ensures) (omega (arith, c .before .before .before .check-condition3 .ensures .total)) (room-is (two-law (scoped-two _ _) (joins t (c .before .before .before .before .before)) a) (c .before .before .before .before .before .before .before .before .before .pre .1 .1)),
       ),
     ))
     (λ c. search needs)
@@ -305,19 +277,16 @@ pub +check-condition+check-operand-spec : {M : Type 1} → statement M
     (λ c. search needs)
     (condition-returns-7 t))
     (λ t. check-operand-lts.spec (operand-claims t) (operand-at t) check-operand.Post
-    (λ c κs. c .before .before .pre .1 .0)
+    (λ c κs. c .before .before .pre .1 .0 .0)
     (λ c. search needs)
-    (λ c κs. let a = operand-arm t (c .before .before .before .before) (c .before .before .node .given .1) in let d = down (a .children .0) (c .before .before .before
-    .before .before .before .before .pre .0) in (
+    (λ c κs. let a = operand-arm t (c .before .before .before .before) (c .before .before .node .given .1) in let d = under (a .children .0) (c .before .before .before .before .before .before .before .pre .0) (c .before .before .before .before .before .before .before .pre .1 .0 .1) in (
       d .0,
       (
         d .1,
-        room-first _ _ (room-is (scoped-arith _ _ a) (c .before .before .before .before .before .before
-            .before .pre .1 .1)),
+        room-first _ _ (room-is (scoped-arith _ _ a) (c .before .before .before .before .before .before .before .pre .1 .1)),
       ),
     ))
-    (λ c κs. let a = operand-arm t (c .before .before .before .before .before .before .before .before) (c .before .before .before .before .before .before .node .given
-    .1) in let d = down (a .children .1 .0) (c .before .before .before .before .before .before .before .before .before .before .before .pre .0) in (
+    (λ c κs. let a = operand-arm t (c .before .before .before .before .before .before .before .before) (c .before .before .before .before .before .before .node .given .1) in let d = under (a .children .1 .0) (c .before .before .before .before .before .before .before .before .before .before .before .pre .0) (c .before .before .before .before .before .before .before .before .before .before .before .pre .1 .0 .1) in (
       d .0,
       (
         d .1,
@@ -330,34 +299,25 @@ pub +check-condition+check-operand-spec : {M : Type 1} → statement M
     (λ c. search needs)
     (λ c κs. let a = operand-arm t (c .before .before .before .before) (c .before .before .node4 .given .1) in (
       a .children .0 .has,
-      room-is (scoped-array _ _ a) (c
-          .before .before .before .before .before .before .before .pre .1 .1),
+      room-is (scoped-array _ _ a) (c .before .before .before .before .before .before .before .pre .1 .1),
     ))
-    (λ c κs. c .before .before .before .before .pre .1 .0)
+    (λ c κs. c .before .before .before .before .pre .1 .0 .0)
     (operand-returns t)
     (λ c κs. (
       c .before .before .before .before .before .before .before .pre .1 .0,
-      room-first _ _ (room-is (scoped-aggregate _ _ (gathers t (c .before .before
-          .before)) refl (operand-arm t (c .before .before .before .before) refl) (sym (c .before .before .is-skipped .ensures) ∙ c .before .if1 .left)) (c .before
-          .before .before .before .before .before .before .pre .1 .1)),
+      room-first _ _ (room-is (scoped-aggregate _ _ (gathers t (c .before .before .before)) refl (operand-arm t (c .before .before .before .before) refl) (sym (c .before .before .is-skipped .ensures) ∙ c .before .if1 .left)) (c .before .before .before .before .before .before .before .pre .1 .1)),
     ))
     (λ c κs. of-aggregate (gathers t (c .before .before .before .before .before .before)) (operand-arm t (c .before .before .before .before .before .before .before)
     refl) .0 .has)
     (λ c κs. search needs)
-    (λ c κs. let a = operand-arm t (c .before .before .before .before .before .before .before .before .before .before) refl in let d = down (of-aggregate (gathers t (c
-    .before .before .before .before .before .before .before .before .before)) a .1) (c .before .before .before .before .before .before .before .before .before
-    .before .before .before .before .pre .0) in (
+    (λ c κs. let a = operand-arm t (c .before .before .before .before .before .before .before .before .before .before) refl in let d = under (of-aggregate (gathers t (c .before .before .before .before .before .before .before .before .before)) a .1) (c .before .before .before .before .before .before .before .before .before .before .before .before .before .pre .0) (c .before .before .before .before .before .before .before .before .before .before .before .before .before .pre .1 .0 .1) in (
       d .0,
       (
         d .1,
         room-rest _ _ (c .before .before .before .before .before .check-agg-expr .ensures) (omega (
           arith,
-          c
-              .before .before .before .before .before .check-agg-expr .ensures .total,
-        )) (room-is (scoped-aggregate _ _ (gathers t (c .before .before .before .before .before
-            .before .before .before .before)) (c .before .union .ensures ∙ ap₂ _∪_ refl (c .before .before .binder-names .ensures)) a (sym (c .before .before .before
-            .before .before .before .before .before .is-skipped .ensures) ∙ c .before .before .before .before .before .before .before .if1 .left)) (c .before .before
-            .before .before .before .before .before .before .before .before .before .before .before .pre .1 .1)),
+          c .before .before .before .before .before .check-agg-expr .ensures .total,
+        )) (room-is (scoped-aggregate _ _ (gathers t (c .before .before .before .before .before .before .before .before .before)) (c .before .union .ensures ∙ ap₂ _∪_ refl (c .before .before .binder-names .ensures)) a (sym (c .before .before .before .before .before .before .before .before .is-skipped .ensures) ∙ c .before .before .before .before .before .before .before .if1 .left)) (c .before .before .before .before .before .before .before .before .before .before .before .before .before .pre .1 .1)),
       ),
     ))
     (λ c. search needs)

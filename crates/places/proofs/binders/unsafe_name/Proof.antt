@@ -18,10 +18,10 @@ unsafe-name-spec =
     tie.close
     (tie.spec
     (λ c κs. search needs)
-    (λ c κs. c .before .before .pre .0)
-    (λ c κs. c .before .before .before .pre .1)
     (λ c κs. search needs)
-    (λ c κs. c .before .before .before .before .before .pre .1)
-    (λ c. c .before .before .before .before .before .empty .ensures ∙ sym (first-picked _ _ (sym (c .before .body-has-sigil .ensures) ∙ c .if1 .taken)))
-    (λ c. c .before .before .minus .ensures ∙ ap₂ _∖_ (c .before .before .before .before .slot-name .ensures) (c .before .before .before .collect-range-restricted
-    .ensures) ∙ sym (second-picked _ _ (sym (c .before .body-has-sigil .ensures) ∙ c .if1 .left))))
+    (λ c. c .empty .ensures ∙ sym (first-picked _ _ (sym (c .before .before .body-has-sigil .ensures) ∙ c .before .if1 .taken)))
+    (λ c κs. search needs)
+    (λ c κs. search needs)
+    (λ c κs. search needs)
+    (λ c. c .minus .ensures ∙ ap₂ _∖_ (c .before .before .slot-name .ensures) (c .before .collect-range-restricted .ensures)
+    ∙ sym (second-picked _ _ (sym (c .before .before .before .before .body-has-sigil .ensures) ∙ c .before .before .before .if1 .left))))

@@ -1,0 +1,2 @@
+-- The facts of a condition, and rows that hold them.
+pub mod Noted

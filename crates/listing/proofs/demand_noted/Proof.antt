@@ -1,0 +1,15 @@
+-- `demand_noted` notes the facts of the nodes, and walks over them.
+use borrow.Author.Needs.{needs}
+use Rattle.listing.proofs.ListingLaws.{from-last}
+use Rattle.listing.proofs.demand_noted.Statement.{statement}
+use Rattle.listing.proofs.demand_noted.Tie as tie
+
+pub demand-noted-spec : {M : Type 1} → statement M
+demand-noted-spec =
+    tie.close
+    (tie.spec
+    (λ c κs. search needs)
+    (λ c κs. let s = c .before .before .before .before .before .before .before .pre in (from-last (s .0 .0) (c .before .before .before .note .ensures), s .1))
+    (λ c. search needs)
+    (λ c. search needs)
+    (λ c. search needs))
