@@ -2,6 +2,7 @@
 use facts::collect_free;
 use facts::collect_range_restricted;
 use facts::collect_term_var;
+use facts::is_plain;
 use free::binder_names;
 use free::slot_name;
 use names::Names;
@@ -201,6 +202,9 @@ pub fn check_chain(
     requires { ⌜ Room (demanded asked (condition (condition-of (now bytes) (i .0))) (mem tied)) at ⌝ }
     ensures { λ r. ⌜ Wrote (demanded asked (condition (condition-of (now (bytes .entry)) (i .0))) (mem tied)) at r (now (out .entry)) (now (out .exit)) ⌝ }
 {
+    if is_plain(bytes, rows, i) {
+        return at;
+    }
     let node = node_at(bytes, starts, i);
     let p = check_own_demands(bytes, starts, rows, i, node, tied, asked, out, at);
     match node {

@@ -1,6 +1,6 @@
 -- Rows that hold the facts of the first nodes: how they stay right, one more of them, and what a walk hands down. Assumes nothing.
 use mathlib.Core.Path.{_≡_, refl, sym, ap, _∙_, subst}
-use mathlib.Core.Bool.{Bool, true, false}
+use mathlib.Core.Bool.{Bool, true, false, _&&_, true≢false}
 use mathlib.Core.List.{List, []}
 use Prim.Native.Nat.{ℕ, _+_, _<_}
 use native.Mathlib.Omega.{arith}
@@ -8,6 +8,8 @@ use lib.Dec.{eqb}
 use lib.ListN.{length, getD, set, length-set}
 use lib.Seq.{getD-set-same, getD-set-other}
 use borrow.Author.Tests.{eqb-true, eqb-false}
+use Rattle.paper.specs.Tree as tree
+use Rattle.paper.specs.Tree.{Tree, as-condition}
 use Rattle.paper.specs.Record.{Sort, condition, term}
 use Rattle.paper.proofs.Weights.{of-sort}
 use Rattle.record.specs.Stored.{contents, Has}
@@ -16,6 +18,7 @@ use Rattle.trees.proofs.Arms.{Child, down}
 use Rattle.trees.proofs.Sorts.{a-body, no-body}
 use Rattle.facts.proofs.FactsLaws.{Part}
 use Rattle.facts.specs.declared.Facts.{Facts}
+use Rattle.facts.specs.Plain.{plain-arguments, plain, plain-at}
 use Rattle.facts.specs.Noted.{facts-of, fact, FactsOf, TermFactsOf, FactsAt, Noted, Put, Kept}
 
 pub kept-same : {bytes : List ℕ} {rows : List (List ℕ)} → Kept bytes rows rows
@@ -95,3 +98,17 @@ module _ {P : Type 0} {bytes starts : List ℕ} {i k : ℕ} where
   pub term-row : Child bytes starts i term k → P → (k < length (contents bytes .nodes)) × P × (is-condition (tree-of bytes k) ≡ false)
   unfolding of-sort
   term-row c n = (c .has .1, n, no-body term (λ c. refl) _ (c .fits))
+
+-- a node that is plain is a plain condition, where a condition is looked for
+pub plain-body : (t : Tree) → plain-at t ≡ true → plain (as-condition t) ≡ true
+unfolding plain-at plain plain-arguments as-condition
+plain-body (tree.a-condition c) e = e
+plain-body (tree.a-term t) e = refl
+plain-body (tree.arguments l) e = refl
+plain-body (tree.items l) e = refl
+plain-body (tree.binders l) e = refl
+plain-body (tree.an-end n) e = refl
+
+pub both-true : (a b : Bool) → (a && b) ≡ true → (a ≡ true) × (b ≡ true)
+both-true true b e = (refl, e)
+both-true false b e = absurd (true≢false (sym e))

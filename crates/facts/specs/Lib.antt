@@ -1,2 +1,3 @@
--- The facts of a condition, and rows that hold them.
+-- The facts of a node, rows that hold them, and nodes in which no walk finds anything.
+pub mod Plain
 pub mod Noted

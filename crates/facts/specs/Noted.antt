@@ -2,7 +2,7 @@
 use mathlib.Core.Path.{_≡_}
 use mathlib.Core.List.{List, []}
 use Prim.Native.Nat.{ℕ, _<_, _≤_}
-use mathlib.Core.Bool.{true, false}
+use mathlib.Core.Bool.{true, false, _||_}
 use lib.Dec.{eqb}
 use lib.ListN.{length, getD, set}
 use Rattle.paper.specs.Sets.{Set, none}
@@ -12,6 +12,7 @@ use Rattle.names.specs.Words.{mem}
 use Rattle.record.specs.Stored.{contents}
 use Rattle.trees.specs.Trees.{tree-of, condition-of, in-terms, is-condition}
 use Rattle.trees.specs.Terms.{free-in, sigil-in}
+use Rattle.facts.specs.Plain.{plain-at}
 use Rattle.facts.specs.declared.Facts.{Facts}
 
 -- the facts that a row holds
@@ -20,7 +21,8 @@ facts-of row =
     record {
       free = record { lo = getD row 0 0; hi = getD row 1 0 };
       restricted = record { lo = getD row 2 0; hi = getD row 3 0 };
-      sigil = eqb (getD row 4 0) 1;
+      sigil = eqb (getD row 4 0) 1 || eqb (getD row 4 0) 3;
+      plain = eqb (getD row 4 0) 2 || eqb (getD row 4 0) 3;
     }
 
 -- of node i as a condition
@@ -50,6 +52,7 @@ pub record TermFactsOf (bytes : List ℕ) (i : ℕ) (f : Facts) : Type 0 where
 pub record FactsAt (bytes : List ℕ) (i : ℕ) (f : Facts) : Type 0 where
   pub body : is-condition (tree-of bytes i) ≡ true → FactsOf bytes i f
   pub term : is-condition (tree-of bytes i) ≡ false → TermFactsOf bytes i f
+  pub plain : f .plain ≡ plain-at (tree-of bytes i)
 
 -- the facts that row k holds
 abbrev pub fact : List (List ℕ) → ℕ → Facts

@@ -8,7 +8,7 @@ use record::access::node_at;
 use sigils::is_sigil;
 use vars::tied_var;
 ghost use mathlib.Core.Path.{_≡_};
-ghost use mathlib.Core.Bool.{_||_, true, false};
+ghost use mathlib.Core.Bool.{_||_, _&&_, not, true, false};
 ghost use Prim.Native.Nat.{_+_, _<_};
 ghost use lib.Dec.{eqb};
 ghost use lib.ListN.{length};
@@ -18,15 +18,17 @@ ghost use Rattle.paper.specs.FreeAndRestricted.{free, restricted, holds-sigil};
 ghost use Rattle.record.specs.Stored.{contents, Has};
 ghost use Rattle.trees.specs.Trees.{tree-of, condition-of, is-condition};
 ghost use Rattle.trees.specs.Terms.{free-in};
+ghost use Rattle.facts.specs.Plain.{plain-at};
 ghost use Rattle.facts.specs.Noted.{facts-of, fact, FactsAt, Noted, AllNoted, Put, Kept};
 
 pub struct Facts {
     pub free: Names,
     pub restricted: Names,
     pub sigil: bool,
+    pub plain: bool,
 }
 
-// The facts that a row holds: two words for each set, and 1 for a sigil.
+// The facts that a row holds: two words for each set, and 1 for a sigil, 2 for a plain node, 3 for both.
 fn noted_facts(row: [u64; 5]) -> Facts
     ensures { λ r. ⌜ r ≡ facts-of row ⌝ }
 {
@@ -41,7 +43,8 @@ fn noted_facts(row: [u64; 5]) -> Facts
     Facts {
         free: free,
         restricted: restricted,
-        sigil: row[4] == 1,
+        sigil: (row[4] == 1) | (row[4] == 3),
+        plain: (row[4] == 2) | (row[4] == 3),
     }
 }
 
@@ -53,10 +56,13 @@ fn facts_at(rows: &[[u64; 5]], i: NodeNo) -> Facts
     noted_facts(row)
 }
 
-fn flag(b: bool) -> u64
-    ensures { λ r. ⌜ eqb r 1 ≡ b ⌝ }
+fn marks(sigil: bool, plain: bool) -> u64
+    ensures { λ r. ⌜ ((eqb r 1 || eqb r 3) ≡ sigil) × ((eqb r 2 || eqb r 3) ≡ plain) ⌝ }
 {
-    if b { 1 } else { 0 }
+    if sigil {
+        return if plain { 3 } else { 1 };
+    }
+    if plain { 2 } else { 0 }
 }
 
 fn row_of(f: Facts) -> [u64; 5]
@@ -64,8 +70,8 @@ fn row_of(f: Facts) -> [u64; 5]
 {
     let free = f.free;
     let restricted = f.restricted;
-    let sigil = flag(f.sigil);
-    [free.lo, free.hi, restricted.lo, restricted.hi, sigil]
+    let both = marks(f.sigil, f.plain);
+    [free.lo, free.hi, restricted.lo, restricted.hi, both]
 }
 
 fn put_facts(rows: &mut [[u64; 5]], i: NodeNo, f: Facts)
@@ -75,9 +81,9 @@ fn put_facts(rows: &mut [[u64; 5]], i: NodeNo, f: Facts)
     rows[i.0 as usize] = row_of(f);
 }
 
-// Nothing free, nothing restricted.
+// Nothing free, nothing restricted: a sigil, or plain.
 fn nameless(sigil: bool) -> Facts
-    ensures { λ r. ⌜ (mem (r .free) ≡ none) × (mem (r .restricted) ≡ none) × (r .sigil ≡ sigil) ⌝ }
+    ensures { λ r. ⌜ (mem (r .free) ≡ none) × (mem (r .restricted) ≡ none) × (r .sigil ≡ sigil) × (r .plain ≡ not sigil) ⌝ }
 {
     let free = names::empty();
     let restricted = names::empty();
@@ -85,23 +91,25 @@ fn nameless(sigil: bool) -> Facts
         free: free,
         restricted: restricted,
         sigil: sigil,
+        plain: !sigil,
     }
 }
 
 // Some names, free and restricted.
-fn naming(own: Names, sigil: bool) -> Facts
-    ensures { λ r. ⌜ (r .free ≡ own) × (r .restricted ≡ own) × (r .sigil ≡ sigil) ⌝ }
+fn naming(own: Names, sigil: bool, plain: bool) -> Facts
+    ensures { λ r. ⌜ (r .free ≡ own) × (r .restricted ≡ own) × (r .sigil ≡ sigil) × (r .plain ≡ plain) ⌝ }
 {
     Facts {
         free: own,
         restricted: own,
         sigil: sigil,
+        plain: plain,
     }
 }
 
 // The facts of two parts, restricting these names.
-fn joined(one: Facts, other: Facts, restricted: Names) -> Facts
-    ensures { λ r. ⌜ (mem (r .free) ≡ mem (one .free) ∪ mem (other .free)) × (r .restricted ≡ restricted) × (r .sigil ≡ (one .sigil || other .sigil)) ⌝ }
+fn joined(one: Facts, other: Facts, restricted: Names, plain: bool) -> Facts
+    ensures { λ r. ⌜ (mem (r .free) ≡ mem (one .free) ∪ mem (other .free)) × (r .restricted ≡ restricted) × (r .sigil ≡ (one .sigil || other .sigil)) × (r .plain ≡ plain) ⌝ }
 {
     let a = one.free;
     let b = other.free;
@@ -111,12 +119,13 @@ fn joined(one: Facts, other: Facts, restricted: Names) -> Facts
         free: free,
         restricted: restricted,
         sigil: sigil,
+        plain: plain,
     }
 }
 
 // The facts of a part whose binders are taken out.
 fn bound(part: Facts, own: Names) -> Facts
-    ensures { λ r. ⌜ (mem (r .free) ≡ mem (part .free) ∖ mem own) × (mem (r .restricted) ≡ mem (part .restricted) ∖ mem own) × (r .sigil ≡ part .sigil) ⌝ }
+    ensures { λ r. ⌜ (mem (r .free) ≡ mem (part .free) ∖ mem own) × (mem (r .restricted) ≡ mem (part .restricted) ∖ mem own) × (r .sigil ≡ part .sigil) × (r .plain ≡ false) ⌝ }
 {
     let a = part.free;
     let b = part.restricted;
@@ -126,12 +135,13 @@ fn bound(part: Facts, own: Names) -> Facts
         free: free,
         restricted: restricted,
         sigil: part.sigil,
+        plain: false,
     }
 }
 
 // The facts of a part under what restricts nothing.
 fn loose(part: Facts) -> Facts
-    ensures { λ r. ⌜ (r .free ≡ part .free) × (mem (r .restricted) ≡ none) × (r .sigil ≡ part .sigil) ⌝ }
+    ensures { λ r. ⌜ (r .free ≡ part .free) × (mem (r .restricted) ≡ none) × (r .sigil ≡ part .sigil) × (r .plain ≡ false) ⌝ }
 {
     let free = part.free;
     let restricted = names::empty();
@@ -139,6 +149,7 @@ fn loose(part: Facts) -> Facts
         free: free,
         restricted: restricted,
         sigil: part.sigil,
+        plain: false,
     }
 }
 
@@ -174,7 +185,8 @@ pub fn collect_facts(
             let left = facts_at(rows, l);
             let right = facts_at(rows, r);
             let given = both(left, right);
-            let f = joined(left, right, given);
+            let plain = left.plain & right.plain;
+            let f = joined(left, right, given, plain);
             put_facts(rows, i, f);
         }
         Node::Or(l, r) | Node::Arith(_, l, r) | Node::ItemCell(l, r) => {
@@ -183,7 +195,7 @@ pub fn collect_facts(
             let left = facts_at(rows, l);
             let right = facts_at(rows, r);
             let given = names::empty();
-            let f = joined(left, right, given);
+            let f = joined(left, right, given, false);
             put_facts(rows, i, f);
         }
         Node::Since(l, r, _) => {
@@ -192,7 +204,7 @@ pub fn collect_facts(
             let left = facts_at(rows, l);
             let right = facts_at(rows, r);
             let given = right.restricted;
-            let f = joined(left, right, given);
+            let f = joined(left, right, given, false);
             put_facts(rows, i, f);
         }
         Node::Comparison(op, l, r) => {
@@ -201,7 +213,7 @@ pub fn collect_facts(
             let left = facts_at(rows, l);
             let right = facts_at(rows, r);
             let given = tied_var(bytes, starts, op, l, r);
-            let f = joined(left, right, given);
+            let f = joined(left, right, given, false);
             put_facts(rows, i, f);
         }
         Node::Not(b) | Node::Array(b) => {
@@ -233,12 +245,12 @@ pub fn collect_facts(
         Node::Tp(slot) => {
             let own = slot_name(slot);
             let sigil = is_sigil(slot);
-            let f = naming(own, sigil);
+            let f = naming(own, sigil, false);
             put_facts(rows, i, f);
         }
         Node::Var(x) => {
             let own = names::single(x);
-            let f = naming(own, false);
+            let f = naming(own, false, true);
             put_facts(rows, i, f);
         }
         Node::Call(_) | Node::SigilRef(_) => {
@@ -301,4 +313,13 @@ pub fn body_has_sigil(bytes: &[u8], rows: &[[u64; 5]], i: NodeNo) -> bool
 {
     let f = facts_at(rows, i);
     f.sigil
+}
+
+// Whether no walk can find anything in it.
+pub fn is_plain(bytes: &[u8], rows: &[[u64; 5]], i: NodeNo) -> bool
+    requires { ⌜ (i .0 < length (contents (now bytes) .nodes)) × AllNoted (now bytes) (now rows) ⌝ }
+    ensures { λ r. ⌜ r ≡ plain-at (tree-of (now (bytes .entry)) (i .0)) ⌝ }
+{
+    let f = facts_at(rows, i);
+    f.plain
 }

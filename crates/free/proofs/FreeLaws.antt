@@ -1,4 +1,4 @@
--- What `collect_free`, `collect_term_var` and `binder_names` find at a node. Assumes nothing.
+-- What `binder_names` finds at a node, and the free names of a node from the nodes below it. Assumes nothing.
 use mathlib.Core.Path.{_≡_, refl, ap}
 use mathlib.Core.List.{List, [], _∷_}
 use Prim.Native.Nat.{ℕ, _<_}

@@ -1,5 +1,5 @@
 -- What `check_condition` and `check_operand` find at a node: by `found-at`, what is broken there and then what is found below. Assumes nothing.
-use mathlib.Core.Path.{_≡_, sym, ap, ap₂, _∙_, subst}
+use mathlib.Core.Path.{_≡_, refl, sym, ap, ap₂, _∙_, subst}
 use mathlib.Core.Bool.{true, false, true≢false}
 use mathlib.Core.List.{List, [], _∷_, _++_, append-nil, append-assoc}
 use Prim.Native.Nat.{ℕ}
@@ -29,6 +29,8 @@ use Rattle.trees.proofs.Sorts.{at-arguments, at-items}
 use Rattle.trees.proofs.Shapes.{Aggregate, sum, count}
 use Rattle.trees.proofs.ByKind.{condition-cases, term-cases}
 use Rattle.trees.proofs.Joins.{JoinsTwo, PassesOne}
+use Rattle.facts.specs.Plain.{plain-argument, plain-arguments, plain}
+use Rattle.facts.proofs.NotedLaws.{both-true}
 use Rattle.places.specs.Nested.{nested, nested-arguments, nested-items, nested-in}
 use Rattle.places.proofs.NestedLaws.{no-argument-nested, no-item-nested}
 use Rattle.aggregates.specs.Aggregates.{skips, five, five-of}
@@ -51,6 +53,23 @@ unentered-kinds = 0 ∷ 1 ∷ 2 ∷ 3 ∷ 4 ∷ 5 ∷ 6 ∷ 7 ∷ 8 ∷ 9 ∷ 10
 
 once : (a : List Finding) → (a ++ []) ++ [] ≡ a
 once a = append-nil (a ++ []) ∙ append-nil a
+
+plain-term-nested : (t : Term) → plain-argument t ≡ true → nested t ≡ []
+unfolding plain-argument nested
+plain-term-nested (Var n x) e = refl
+plain-term-nested (Wildcard n) e = refl
+plain-term-nested (Value n k y) e = refl
+plain-term-nested (Sigil n k i) e = refl
+plain-term-nested (Array n l) e = absurd (true≢false (sym e))
+plain-term-nested (Arith n o l r) e = absurd (true≢false (sym e))
+plain-term-nested (Sum n s l b) e = absurd (true≢false (sym e))
+plain-term-nested (Count n l b) e = absurd (true≢false (sym e))
+plain-term-nested (AggregateCall n y) e = absurd (true≢false (sym e))
+
+plain-nested : (l : Arguments) → plain-arguments l ≡ true → nested-arguments l ≡ []
+unfolding plain-arguments nested
+plain-nested (no-argument n) e = refl
+plain-nested (argument n f t l) e = ap₂ {C = List Finding} _++_ (plain-term-nested t (both-true (plain-argument t) (plain-arguments l) e .0)) (plain-nested l (both-true (plain-argument t) (plain-arguments l) e .1))
 
 module _ (words scope : Set) where
   abbrev from : Spot → List Finding
@@ -111,6 +130,22 @@ module _ (words scope : Set) where
     items-searched (item n t l) =
         at (searched-items (item n t l)) ∙ then-one (from (searched t)) (from (searched-items l))
         ∙ ap₂ {C = List Finding} _++_ (term-searched t) (items-searched l)
+
+  -- ---- in a plain condition nothing is found
+
+  pub plain-scoped : (c : Condition) → plain c ≡ true → from (condition c) ≡ []
+  unfolding scope-below scope-broken gather scoped plain
+  plain-scoped (cond.And n l r) e = scoped-two .and n l r ∙ ap₂ {C = List Finding} _++_ (plain-scoped l (both-true (plain l) (plain r) e .0)) (plain-scoped r (both-true (plain l) (plain r) e .1))
+  plain-scoped (cond.Or n l r) e = absurd (true≢false (sym e))
+  plain-scoped (cond.Not n b) e = absurd (true≢false (sym e))
+  plain-scoped (cond.Past n k b w) e = scoped-one .past n k b w ∙ plain-scoped b e
+  plain-scoped (cond.Since n l r w) e = absurd (true≢false (sym e))
+  plain-scoped (cond.Exists n s y b) e = absurd (true≢false (sym e))
+  plain-scoped (cond.Comparison n o l r) e = absurd (true≢false (sym e))
+  plain-scoped (cond.Predicate n a l) e = at (condition (cond.Predicate n a l)) ∙ append-nil (from (searched-arguments l)) ∙ arguments-searched l ∙ plain-nested l e
+  plain-scoped (cond.Refine n b l) e = scoped-refine n b l ∙ plain-scoped b (both-true (plain b) (plain-arguments l) e .0)
+  plain-scoped (cond.Tp n s) e = absurd (true≢false (sym e))
+  plain-scoped (cond.Opaque n k y) e = absurd (true≢false (sym e))
 
   -- ---- conditions
 

@@ -1,6 +1,7 @@
 // Scoping: 20 to 27.
 use aggregates::check_agg_expr;
 use aggregates::is_skipped;
+use facts::is_plain;
 use free::binder_names;
 use free::slot_name;
 use names::Names;
@@ -33,6 +34,9 @@ pub fn check_condition(
     requires { ⌜ Room (scoped (mem words) (condition (condition-of (now bytes) (i .0))) (mem scope)) at ⌝ }
     ensures { λ r. ⌜ Wrote (scoped (mem words) (condition (condition-of (now (bytes .entry)) (i .0))) (mem scope)) at r (now (out .entry)) (now (out .exit)) ⌝ }
 {
+    if is_plain(bytes, rows, i) {
+        return at;
+    }
     let node = node_at(bytes, starts, i);
     match node {
         Node::And(l, r) | Node::Or(l, r) | Node::Since(l, r, _) => {

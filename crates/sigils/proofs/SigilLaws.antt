@@ -1,4 +1,4 @@
--- What `is_sigil`, `body_has_sigil` and `term_has_sigil` find at a node. Assumes nothing.
+-- What holds a sigil: slots, and nodes from the nodes below them. Assumes nothing.
 use mathlib.Core.Path.{_≡_, refl, ap}
 use mathlib.Core.Bool.{true, false, _||_}
 use mathlib.Core.List.{List, [], _∷_}

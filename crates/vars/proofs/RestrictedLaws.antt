@@ -1,4 +1,4 @@
--- What `term_contains_wildcard`, `bare_var`, `is_restrictor`, `direct_vars` and `collect_range_restricted` find at a node. Assumes nothing.
+-- What `term_contains_wildcard`, `bare_var` and `is_restrictor` find at a node, and the restricted names of a node from the nodes below it. Assumes nothing.
 use mathlib.Core.Path.{_≡_, refl, sym, ap, _∙_, subst}
 use mathlib.Core.Bool.{Bool, true, false, not, true≢false, _||_}
 use mathlib.Core.List.{List, [], _∷_}

@@ -11,12 +11,12 @@ use Rattle.paper.specs.Sets.{_∪_, _∖_}
 use Rattle.names.specs.Words.{mem}
 use Rattle.trees.specs.Trees.{condition-of}
 use Rattle.trees.proofs.Arms.{Arm, arm}
-use Rattle.facts.proofs.NotedLaws.{under}
+use Rattle.facts.proofs.NotedLaws.{under, plain-body}
 use Rattle.trees.proofs.Shapes as shape
 use Rattle.trees.proofs.Shapes.{Two, Base, Aggregate, sum, count, of-two, of-base, of-aggregate, met₁, met₂}
 use Rattle.writes.specs.Written.{Room}
 use Rattle.writes.proofs.WriteLaws.{wrote-none, wrote-then, wrote-is, room-is, room-first, room-rest}
-use Rattle.demands.proofs.DemandLaws.{below-it, wrote-own-first, room-own, room-below, below-two, below-base, below-comparison, below-none, operand-arith, operand-aggregate, operand-none}
+use Rattle.demands.proofs.DemandLaws.{plain-demanded, below-it, wrote-own-first, room-own, room-below, below-two, below-base, below-comparison, below-none, operand-arith, operand-aggregate, operand-none}
 use Prim.Native.Nat.{ℕ, _<_}
 use borrow.Fn.Kinds.{In}
 use borrow.Fn.PlainCycle.{Measures, is, falls, and}
@@ -26,6 +26,7 @@ use Rattle.demands.proofs.asked_first.Reads as asked-first-reads
 use Rattle.demands.proofs.check_own_demands.Reads as check-own-demands-reads
 use Rattle.demands.proofs.tied_first.Reads as tied-first-reads
 use Rattle.demands.proofs.tied_second.Reads as tied-second-reads
+use Rattle.facts.proofs.is_plain.Reads as is-plain-reads
 use Rattle.free.proofs.binder_names.Reads as binder-names-reads
 use Rattle.names.proofs.minus.Reads as minus-reads
 use Rattle.record.proofs.access.node_at.Reads as node-at-reads
@@ -56,6 +57,8 @@ operand-below t = and 4 descend-nested-chains-kinds.ps (falls 4 descend-nested-c
 
 abbrev chain-claims : ℕ → check-chain-lts.Claims
 chain-claims t = (
+  is-plain-reads.Asked,
+  is-plain-reads.Learnt,
   node-at-reads.Asked,
   node-at-reads.Learnt,
   check-own-demands-reads.Asked,
@@ -87,8 +90,8 @@ operand-claims t = (
 )
 
 chain-arm : (t : ℕ) (c : check-chain-lts.After-node-at (chain-claims t) (chain-at t) check-chain.Post) {m : Node} → c .node-at .result ≡ m
-    → Arm (now (c .before .before .before .args .bytes)) (now (c .before .before .before .args .starts)) (c .before .before .before .args .i .0) m
-chain-arm t c p = arm _ _ _ _ _ (c .before .before .before .pre .1 .0 .0) (c .node-at .ensures) p
+    → Arm (now (c .before .before .before .before .before .args .bytes)) (now (c .before .before .before .before .before .args .starts)) (c .before .before .before .before .before .args .i .0) m
+chain-arm t c p = arm _ _ _ _ _ (c .before .before .before .before .before .pre .1 .0 .0) (c .node-at .ensures) p
 
 operand-arm : (t : ℕ) (c : descend-nested-chains-lts.After-node-at (operand-claims t) (operand-at t) descend-nested-chains.Post) {m : Node} → c .node-at .result ≡ m
     → Arm (now (c .before .before .before .args .bytes)) (now (c .before .before .before .args .starts)) (c .before .before .before .args .i .0) m
@@ -96,9 +99,9 @@ operand-arm t c p = arm _ _ _ _ _ (c .before .before .before .pre .1 .0 .0) (c .
 
 -- the room for what lies below, after the condition's own entries
 chain-room : (t : ℕ) (c : check-chain-lts.After-slice-known2 (chain-claims t) (chain-at t) check-chain.Post)
-    → let s = c .before .before .before .before .before .before .before .args in
+    → let s = c .before .before .before .before .before .before .before .before .before .args in
     Room (below-it (condition-of (now (s .bytes)) (s .i .0)) (mem (s .tied))) (c .before .before .check-own-demands .result)
-chain-room t c = room-below _ _ _ (c .before .before .check-own-demands .ensures) (c .before .before .before .before .before .before .before .pre .1 .1)
+chain-room t c = room-below _ _ _ (c .before .before .check-own-demands .ensures) (c .before .before .before .before .before .before .before .before .before .pre .1 .1)
 
 base : (t : ℕ) (c : check-chain-lts.At-match-came (chain-claims t) (chain-at t) check-chain.Post) → Base (c .match .b) (c .before .before .before .before .before .node-at .result)
 base t c =
@@ -130,23 +133,27 @@ aggregate t c =
     (λ w. met₂ Aggregate node.Count (λ l b. count) (w .1 .given .1) (w .3) (w .4))
     (c .match .came)
 
-comparison-writes : (t : ℕ) → check-chain-lts.Need-returns (chain-claims t) (chain-at t) check-chain.Post
+plain-writes : (t : ℕ) → check-chain-lts.Need-returns (chain-claims t) (chain-at t) check-chain.Post
+plain-writes t c =
+    wrote-is (plain-demanded _ _ _ (plain-body _ (sym (c .before .is-plain .ensures) ∙ c .if1 .taken))) wrote-none
+
+comparison-writes : (t : ℕ) → check-chain-lts.Need-returns-2 (chain-claims t) (chain-at t) check-chain.Post
 comparison-writes t c =
     let a = chain-arm t (c .before .before .before .before .before .before .before .before .before .before .before .before .before .before .before) (c .before .before .before .before .before .before .before .before .before .node9 .given .1) in
     wrote-own-first _ _ _ (c .before .before .before .before .before .before .before .before .before .before .before .before .before .check-own-demands .ensures)
     (wrote-is (below-comparison _ a) (wrote-then (c .before .before .before .before .before .before .descend-nested-chains .ensures) (c .before .before .descend-nested-chains2 .ensures)))
 
-other-writes : (t : ℕ) → check-chain-lts.Need-returns-2 (chain-claims t) (chain-at t) check-chain.Post
+other-writes : (t : ℕ) → check-chain-lts.Need-returns-3 (chain-claims t) (chain-at t) check-chain.Post
 other-writes t c =
     wrote-own-first _ _ _ (c .before .before .before .check-own-demands .ensures) (wrote-is (below-none _ (chain-arm t (c .before .before .before .before .before) refl) (c .match .keys10)) wrote-none)
 
-base-writes : (t : ℕ) → check-chain-lts.Need-returns-3 (chain-claims t) (chain-at t) check-chain.Post
+base-writes : (t : ℕ) → check-chain-lts.Need-returns-4 (chain-claims t) (chain-at t) check-chain.Post
 base-writes t c =
     let a = chain-arm t (c .before .before .before .before .before .before .before .before .before .before .before) refl in
     wrote-own-first _ _ _ (c .before .before .before .before .before .before .before .before .before .check-own-demands .ensures)
     (wrote-is (below-base _ (base t (c .before .before .before .before .before .before)) a (c .before .before .before .before .before .tied-first .ensures) (c .before .before .before .before .asked-first .ensures)) (c .before .before .check-chain .ensures))
 
-two-writes : (t : ℕ) → check-chain-lts.Need-returns-4 (chain-claims t) (chain-at t) check-chain.Post
+two-writes : (t : ℕ) → check-chain-lts.Need-returns-5 (chain-claims t) (chain-at t) check-chain.Post
 two-writes t c =
     let a = chain-arm t (c .before .before .before .before .before .before .before .before .before .before .before .before .before .before .before) refl in
     wrote-own-first _ _ _ (c .before .before .before .before .before .before .before .before .before .before .before .before .before .check-own-demands .ensures)
@@ -172,8 +179,10 @@ pub +check-chain+descend-nested-chains-spec : {M : Type 1} → statement M
 +check-chain+descend-nested-chains-spec =
     close μ-chain μ-operand
     (λ t. check-chain-lts.spec (chain-claims t) (chain-at t) check-chain.Post
-    (λ c κs. c .before .before .pre .1 .0 .0)
-    (λ c κs. let s = c .before .before .before .before .pre .1 in (s .0, (c .before .node-at .ensures, room-own _ _ _ (s .1))))
+    (λ c κs. let s = c .before .before .pre .1 .0 in (s .0 .1, s .1))
+    (plain-writes t)
+    (λ c κs. c .before .before .before .before .pre .1 .0 .0)
+    (λ c κs. let s = c .before .before .before .before .before .before .pre .1 in (s .0, (c .before .node-at .ensures, room-own _ _ _ (s .1))))
     (λ c. search needs)
     (λ c. search needs)
     (λ c. search needs)
@@ -183,15 +192,15 @@ pub +check-chain+descend-nested-chains-spec : {M : Type 1} → statement M
     (λ c. search needs)
     (λ c. search needs)
     (λ c. search needs)
-    (λ c κs. let a = chain-arm t (c .before .before .before .before .before .before .before .before) (c .before .before .node9 .given .1) in let d = under (a .children .0) (c .before .before .before .before .before .before .before .before .before .before .before .pre .0) (c .before .before .before .before .before .before .before .before .before .before .before .pre .1 .0 .1) in (d .0, (d .1, room-first _ _ (room-is (below-comparison _ a) (chain-room t (c .before .before .before .before))))))
-    (λ c κs. let a = chain-arm t (c .before .before .before .before .before .before .before .before .before .before .before .before) (c .before .before .before .before .before .before .node9 .given .1) in let d = under (a .children .1 .0) (c .before .before .before .before .before .before .before .before .before .before .before .before .before .before .before .pre .0) (c .before .before .before .before .before .before .before .before .before .before .before .before .before .before .before .pre .1 .0 .1) in let w = c .before .before .before .descend-nested-chains .ensures in (d .0, (d .1, room-rest _ _ w (omega (arith, w .total)) (room-is (below-comparison _ a) (chain-room t (c .before .before .before .before .before .before .before .before))))))
-    (λ c κs. (c .before .before .before .before .before .before .before .before .pre .1 .0, base-node t (c) ∙ c .before .before .before .before .before .node-at .ensures))
-    (λ c κs. (c .before .before .before .before .before .before .before .before .before .pre .1 .0 .0, base-node t (c .before) ∙ c .before .before .before .before .before .before .node-at .ensures))
-    (λ c κs. let a = chain-arm t (c .before .before .before .before .before .before .before .before) refl in let s = base t (c .before .before .before) in let d = under (of-base s a) (c .before .before .before .before .before .before .before .before .before .before .before .pre .0) (c .before .before .before .before .before .before .before .before .before .before .before .pre .1 .0 .1) in (d .0, (d .1, room-is (below-base _ s a (c .before .before .tied-first .ensures) (c .before .asked-first .ensures)) (chain-room t (c .before .before .before .before)))))
-    (λ c κs. (c .before .before .before .before .before .before .before .before .pre .1 .0, two-node t (c) ∙ c .before .before .before .before .before .node-at .ensures))
-    (λ c κs. (c .before .before .before .before .before .before .before .before .before .pre .1 .0, two-node t (c .before) ∙ c .before .before .before .before .before .before .node-at .ensures))
-    (λ c κs. let a = chain-arm t (c .before .before .before .before .before .before .before .before) refl in let s = two t (c .before .before .before) in let d = under (of-two s a .0) (c .before .before .before .before .before .before .before .before .before .before .before .pre .0) (c .before .before .before .before .before .before .before .before .before .before .before .pre .1 .0 .1) in (d .0, (d .1, room-first _ _ (room-is (below-two _ s a (c .before .before .tied-first2 .ensures) (c .before .tied-second .ensures)) (chain-room t (c .before .before .before .before))))))
-    (λ c κs. let a = chain-arm t (c .before .before .before .before .before .before .before .before .before .before .before .before) refl in let s = two t (c .before .before .before .before .before .before .before) in let d = under (of-two s a .1) (c .before .before .before .before .before .before .before .before .before .before .before .before .before .before .before .pre .0) (c .before .before .before .before .before .before .before .before .before .before .before .before .before .before .before .pre .1 .0 .1) in let w = c .before .before .before .check-chain2 .ensures in (d .0, (d .1, room-rest _ _ w (omega (arith, w .total)) (room-is (below-two _ s a (c .before .before .before .before .before .before .tied-first2 .ensures) (c .before .before .before .before .before .tied-second .ensures)) (chain-room t (c .before .before .before .before .before .before .before .before))))))
+    (λ c κs. let a = chain-arm t (c .before .before .before .before .before .before .before .before) (c .before .before .node9 .given .1) in let d = under (a .children .0) (c .before .before .before .before .before .before .before .before .before .before .before .before .before .pre .0) (c .before .before .before .before .before .before .before .before .before .before .before .before .before .pre .1 .0 .1) in (d .0, (d .1, room-first _ _ (room-is (below-comparison _ a) (chain-room t (c .before .before .before .before))))))
+    (λ c κs. let a = chain-arm t (c .before .before .before .before .before .before .before .before .before .before .before .before) (c .before .before .before .before .before .before .node9 .given .1) in let d = under (a .children .1 .0) (c .before .before .before .before .before .before .before .before .before .before .before .before .before .before .before .before .before .pre .0) (c .before .before .before .before .before .before .before .before .before .before .before .before .before .before .before .before .before .pre .1 .0 .1) in let w = c .before .before .before .descend-nested-chains .ensures in (d .0, (d .1, room-rest _ _ w (omega (arith, w .total)) (room-is (below-comparison _ a) (chain-room t (c .before .before .before .before .before .before .before .before))))))
+    (λ c κs. (c .before .before .before .before .before .before .before .before .before .before .pre .1 .0, base-node t (c) ∙ c .before .before .before .before .before .node-at .ensures))
+    (λ c κs. (c .before .before .before .before .before .before .before .before .before .before .before .pre .1 .0 .0, base-node t (c .before) ∙ c .before .before .before .before .before .before .node-at .ensures))
+    (λ c κs. let a = chain-arm t (c .before .before .before .before .before .before .before .before) refl in let s = base t (c .before .before .before) in let d = under (of-base s a) (c .before .before .before .before .before .before .before .before .before .before .before .before .before .pre .0) (c .before .before .before .before .before .before .before .before .before .before .before .before .before .pre .1 .0 .1) in (d .0, (d .1, room-is (below-base _ s a (c .before .before .tied-first .ensures) (c .before .asked-first .ensures)) (chain-room t (c .before .before .before .before)))))
+    (λ c κs. (c .before .before .before .before .before .before .before .before .before .before .pre .1 .0, two-node t (c) ∙ c .before .before .before .before .before .node-at .ensures))
+    (λ c κs. (c .before .before .before .before .before .before .before .before .before .before .before .pre .1 .0, two-node t (c .before) ∙ c .before .before .before .before .before .before .node-at .ensures))
+    (λ c κs. let a = chain-arm t (c .before .before .before .before .before .before .before .before) refl in let s = two t (c .before .before .before) in let d = under (of-two s a .0) (c .before .before .before .before .before .before .before .before .before .before .before .before .before .pre .0) (c .before .before .before .before .before .before .before .before .before .before .before .before .before .pre .1 .0 .1) in (d .0, (d .1, room-first _ _ (room-is (below-two _ s a (c .before .before .tied-first2 .ensures) (c .before .tied-second .ensures)) (chain-room t (c .before .before .before .before))))))
+    (λ c κs. let a = chain-arm t (c .before .before .before .before .before .before .before .before .before .before .before .before) refl in let s = two t (c .before .before .before .before .before .before .before) in let d = under (of-two s a .1) (c .before .before .before .before .before .before .before .before .before .before .before .before .before .before .before .before .before .pre .0) (c .before .before .before .before .before .before .before .before .before .before .before .before .before .before .before .before .before .pre .1 .0 .1) in let w = c .before .before .before .check-chain2 .ensures in (d .0, (d .1, room-rest _ _ w (omega (arith, w .total)) (room-is (below-two _ s a (c .before .before .before .before .before .before .tied-first2 .ensures) (c .before .before .before .before .before .tied-second .ensures)) (chain-room t (c .before .before .before .before .before .before .before .before))))))
     (λ c. search needs)
     (comparison-writes t)
     (λ c. search needs)

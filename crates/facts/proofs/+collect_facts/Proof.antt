@@ -1,5 +1,5 @@
--- `collect_facts` puts the facts of a node into its row, after those of its parts. The measure is the node's number. First the shapes that its arms take together, then
--- its needs in the order of the code: what the calls ask, and then what each arm leaves behind.
+-- `collect_facts` puts the facts of a node into its row, after those of its parts. The measure is the node's number. First the shapes that its arms take together and
+-- what each arm leaves behind, by the law of its shape, so that a wrong arm is refused there; then the needs in the order of the code.
 use mathlib.Core.Path.{_≡_, refl, ap, _∙_}
 use mathlib.Core.Logic.{⊎-elim}
 use native.Mathlib.Omega.{arith}
@@ -93,6 +93,107 @@ both t c =
     (λ w. met₂ Both (node.ArgumentCell (w .1 .given .0 .0)) (λ l r. Both.argument) (w .1 .given .1) (w .3) (w .4)))
     (c .match .came)
 
+since-noted : (t : ℕ) → collect-facts-lts.Need-returns-2 (claims-collect-facts t) (collect-facts-at t) collect-facts.Post
+since-noted t c =
+    let a = node-arm t (c .before .before .before .before .before .before .before .before .before .before .before .before .before .before .before .before .before .before) (c .before .before .before .before .before .before .before .before .before .before .before .before .before .before .before .before .node7 .given .1) in
+    let x = read-at (c .before .before .before .before .before .before .before .facts-at .ensures) (c .before .before .before .before .before .before .before .before .before .before .collect-facts2 .ensures .0 .right _ (c .before .before .before .before .before .before .before .before .before .before .before .before .before .collect-facts .ensures .1)) in
+    let y = read-at (c .before .before .before .before .before .facts-at2 .ensures) (c .before .before .before .before .before .before .before .before .before .before .collect-facts2 .ensures .1) in
+    let h = kept-on (c .before .before .before .before .before .before .before .before .before .before .before .before .before .before .before .before .before .before .before .before .before .before .pre .1 .1) (kept-then (c .before .before .before .before .before .before .before .before .before .before .before .before .before .collect-facts .ensures .0) (c .before .before .before .before .before .before .before .before .before .before .collect-facts2 .ensures .0)) in
+    after (kept-then (c .before .before .before .before .before .before .before .before .before .before .before .before .before .collect-facts .ensures .0) (c .before .before .before .before .before .before .before .before .before .before .collect-facts2 .ensures .0))
+    (put-kept (c .before .put-facts .ensures) (h .1)
+    (law.since-at a x y (c .before .before .before .joined .ensures .0) (c .before .before .before .joined .ensures .2) (ap mem (c .before .before .before .joined .ensures .1)) (c .before .before .before .joined .ensures .3)))
+
+comparison-noted : (t : ℕ) → collect-facts-lts.Need-returns-3 (claims-collect-facts t) (collect-facts-at t) collect-facts.Post
+comparison-noted t c =
+    let a = node-arm t (c .before .before .before .before .before .before .before .before .before .before .before .before .before .before .before .before .before .before) (c .before .before .before .before .before .before .before .before .before .before .before .before .before .before .before .before .node8 .given .1) in
+    let x = read-at (c .before .before .before .before .before .before .before .facts-at3 .ensures) (c .before .before .before .before .before .before .before .before .before .before .collect-facts4 .ensures .0 .right _ (c .before .before .before .before .before .before .before .before .before .before .before .before .before .collect-facts3 .ensures .1)) in
+    let y = read-at (c .before .before .before .before .before .facts-at4 .ensures) (c .before .before .before .before .before .before .before .before .before .before .collect-facts4 .ensures .1) in
+    let h = kept-on (c .before .before .before .before .before .before .before .before .before .before .before .before .before .before .before .before .before .before .before .before .before .before .pre .1 .1) (kept-then (c .before .before .before .before .before .before .before .before .before .before .before .before .before .collect-facts3 .ensures .0) (c .before .before .before .before .before .before .before .before .before .before .collect-facts4 .ensures .0)) in
+    after (kept-then (c .before .before .before .before .before .before .before .before .before .before .before .before .before .collect-facts3 .ensures .0) (c .before .before .before .before .before .before .before .before .before .before .collect-facts4 .ensures .0))
+    (put-kept (c .before .put-facts2 .ensures) (h .1)
+    (law.comparison-at a x y (c .before .before .before .joined2 .ensures .0) (c .before .before .before .joined2 .ensures .2) (ap mem (c .before .before .before .joined2 .ensures .1) ∙ c .before .before .before .before .tied-var .ensures) (c .before .before .before .joined2 .ensures .3)))
+
+exists-noted : (t : ℕ) → collect-facts-lts.Need-returns-4 (claims-collect-facts t) (collect-facts-at t) collect-facts.Post
+exists-noted t c =
+    let a = node-arm t (c .before .before .before .before .before .before .before .before .before .before .before .before .before) (c .before .before .before .before .before .before .before .before .before .before .before .node14 .given .1) in
+    let x = read-at (c .before .before .before .before .before .facts-at5 .ensures) (c .before .before .before .before .before .before .before .before .collect-facts5 .ensures .1) in
+    let h = kept-on (c .before .before .before .before .before .before .before .before .before .before .before .before .before .before .before .before .before .pre .1 .1) (c .before .before .before .before .before .before .before .before .collect-facts5 .ensures .0) in
+    after (c .before .before .before .before .before .before .before .before .collect-facts5 .ensures .0)
+    (put-kept (c .before .put-facts3 .ensures) (h .1)
+    (law.exists-at a x (c .before .before .before .before .slot-name .ensures) (c .before .before .before .bound .ensures .0) (c .before .before .before .bound .ensures .1) (c .before .before .before .bound .ensures .2) (c .before .before .before .bound .ensures .3)))
+
+tp-noted : (t : ℕ) → collect-facts-lts.Need-returns-5 (claims-collect-facts t) (collect-facts-at t) collect-facts.Post
+tp-noted t c =
+    put-kept (c .before .put-facts4 .ensures) (c .before .before .before .before .before .before .before .before .before .before .before .before .before .pre .1 .1 .1)
+    (law.tp-at (node-arm t (c .before .before .before .before .before .before .before .before .before) (c .before .before .before .before .before .before .before .node17 .given .1)) (c .before .before .before .before .before .slot-name2 .ensures) (ap mem (c .before .before .before .naming .ensures .0)) (ap mem (c .before .before .before .naming .ensures .1)) (c .before .before .before .naming .ensures .2 ∙ c .before .before .before .before .is-sigil .ensures) (c .before .before .before .naming .ensures .3))
+
+var-noted : (t : ℕ) → collect-facts-lts.Need-returns-6 (claims-collect-facts t) (collect-facts-at t) collect-facts.Post
+var-noted t c =
+    put-kept (c .before .put-facts5 .ensures) (c .before .before .before .before .before .before .before .before .before .before .before .before .pre .1 .1 .1)
+    (law.var-at (node-arm t (c .before .before .before .before .before .before .before .before) (c .before .before .before .before .before .before .node18 .given .1)) (c .before .before .before .before .single .ensures) (ap mem (c .before .before .before .naming2 .ensures .0)) (ap mem (c .before .before .before .naming2 .ensures .1)) (c .before .before .before .naming2 .ensures .2) (c .before .before .before .naming2 .ensures .3))
+
+call-noted : (t : ℕ) → collect-facts-lts.Need-returns-7 (claims-collect-facts t) (collect-facts-at t) collect-facts.Post
+call-noted t c =
+    put-kept (c .before .put-facts6 .ensures) (c .before .before .before .before .before .before .before .before .before .pre .1 .1 .1)
+    (law.opaque-at (node-arm t (c .before .before .before .before .before) refl) (c .before .before .before .before .match .keys19) (c .before .before .before .nameless .ensures .0) (c .before .before .before .nameless .ensures .1) (c .before .before .before .nameless .ensures .2) (c .before .before .before .nameless .ensures .3))
+
+opaque-noted : (t : ℕ) → collect-facts-lts.Need-returns-8 (claims-collect-facts t) (collect-facts-at t) collect-facts.Post
+opaque-noted t c =
+    put-kept (c .before .put-facts7 .ensures) (c .before .before .before .before .before .before .before .before .before .pre .1 .1 .1)
+    (law.opaque-term-at (node-arm t (c .before .before .before .before .before) refl) (c .before .before .before .before .match .keys20) (c .before .before .before .nameless2 .ensures .0) (c .before .before .before .nameless2 .ensures .1) (c .before .before .before .nameless2 .ensures .2) (c .before .before .before .nameless2 .ensures .3))
+
+other-noted : (t : ℕ) → collect-facts-lts.Need-returns-9 (claims-collect-facts t) (collect-facts-at t) collect-facts.Post
+other-noted t c =
+    put-kept (c .before .put-facts8 .ensures) (c .before .before .before .before .before .before .before .before .before .pre .1 .1 .1)
+    (law.other-at (node-arm t (c .before .before .before .before .before) refl) (c .before .before .before .before .match .keys21) (c .before .before .before .nameless3 .ensures .0) (c .before .before .before .nameless3 .ensures .1) (c .before .before .before .nameless3 .ensures .2) (c .before .before .before .nameless3 .ensures .3))
+
+aggregate-noted : (t : ℕ) → collect-facts-lts.Need-returns-10 (claims-collect-facts t) (collect-facts-at t) collect-facts.Post
+aggregate-noted t c =
+    let a = node-arm t (c .before .before .before .before .before .before .before .before .before .before .before .before) refl in
+    let x = read-at (c .before .before .before .before .before .before .facts-at6 .ensures) (c .before .before .before .before .before .before .before .before .before .collect-facts6 .ensures .1) in
+    let h = kept-on (c .before .before .before .before .before .before .before .before .before .before .before .before .before .before .before .before .pre .1 .1) (c .before .before .before .before .before .before .before .before .before .collect-facts6 .ensures .0) in
+    after (c .before .before .before .before .before .before .before .before .before .collect-facts6 .ensures .0)
+    (put-kept (c .before .put-facts9 .ensures) (h .1)
+    (law.aggregate-at (gathers t (c .before .before .before .before .before .before .before .before .before .before .before)) a x (c .before .before .before .before .before .binder-names .ensures) (ap mem (c .before .before .before .loose .ensures .0) ∙ c .before .before .before .before .bound2 .ensures .0) (c .before .before .before .loose .ensures .1) (c .before .before .before .loose .ensures .2 ∙ c .before .before .before .before .bound2 .ensures .2) (c .before .before .before .loose .ensures .3)))
+
+same-noted : (t : ℕ) → collect-facts-lts.Need-returns-11 (claims-collect-facts t) (collect-facts-at t) collect-facts.Post
+same-noted t c =
+    let a = node-arm t (c .before .before .before .before .before .before .before .before .before) refl in
+    let x = read-at (c .before .before .before .facts-at7 .ensures) (c .before .before .before .before .before .before .collect-facts7 .ensures .1) in
+    let h = kept-on (c .before .before .before .before .before .before .before .before .before .before .before .before .before .pre .1 .1) (c .before .before .before .before .before .before .collect-facts7 .ensures .0) in
+    after (c .before .before .before .before .before .before .collect-facts7 .ensures .0)
+    (put-kept (c .before .put-facts10 .ensures) (h .1)
+    (law.same-at (same t (c .before .before .before .before .before .before .before .before)) a x))
+
+loosened-noted : (t : ℕ) → collect-facts-lts.Need-returns-12 (claims-collect-facts t) (collect-facts-at t) collect-facts.Post
+loosened-noted t c =
+    let a = node-arm t (c .before .before .before .before .before .before .before .before .before .before) refl in
+    let x = read-at (c .before .before .before .before .facts-at8 .ensures) (c .before .before .before .before .before .before .before .collect-facts8 .ensures .1) in
+    let h = kept-on (c .before .before .before .before .before .before .before .before .before .before .before .before .before .before .pre .1 .1) (c .before .before .before .before .before .before .before .collect-facts8 .ensures .0) in
+    after (c .before .before .before .before .before .before .before .collect-facts8 .ensures .0)
+    (put-kept (c .before .put-facts11 .ensures) (h .1)
+    (law.loosened-at (loosened t (c .before .before .before .before .before .before .before .before .before)) a x (c .before .before .before .loose2 .ensures .0) (c .before .before .before .loose2 .ensures .1) (c .before .before .before .loose2 .ensures .2) (c .before .before .before .loose2 .ensures .3)))
+
+neither-noted : (t : ℕ) → collect-facts-lts.Need-returns-13 (claims-collect-facts t) (collect-facts-at t) collect-facts.Post
+neither-noted t c =
+    let a = node-arm t (c .before .before .before .before .before .before .before .before .before .before .before .before .before .before .before .before) refl in
+    let x = read-at (c .before .before .before .before .before .before .before .facts-at9 .ensures) (c .before .before .before .before .before .before .before .before .before .before .collect-facts10 .ensures .0 .right _ (c .before .before .before .before .before .before .before .before .before .before .before .before .before .collect-facts9 .ensures .1)) in
+    let y = read-at (c .before .before .before .before .before .facts-at10 .ensures) (c .before .before .before .before .before .before .before .before .before .before .collect-facts10 .ensures .1) in
+    let h = kept-on (c .before .before .before .before .before .before .before .before .before .before .before .before .before .before .before .before .before .before .before .before .pre .1 .1) (kept-then (c .before .before .before .before .before .before .before .before .before .before .before .before .before .collect-facts9 .ensures .0) (c .before .before .before .before .before .before .before .before .before .before .collect-facts10 .ensures .0)) in
+    after (kept-then (c .before .before .before .before .before .before .before .before .before .before .before .before .before .collect-facts9 .ensures .0) (c .before .before .before .before .before .before .before .before .before .before .collect-facts10 .ensures .0))
+    (put-kept (c .before .put-facts12 .ensures) (h .1)
+    (law.neither-at (neither t (c .before .before .before .before .before .before .before .before .before .before .before .before .before .before .before)) a x y (c .before .before .before .joined3 .ensures .0) (c .before .before .before .joined3 .ensures .2) (ap mem (c .before .before .before .joined3 .ensures .1) ∙ c .before .before .before .before .empty .ensures) (c .before .before .before .joined3 .ensures .3)))
+
+both-noted : (t : ℕ) → collect-facts-lts.Need-returns-14 (claims-collect-facts t) (collect-facts-at t) collect-facts.Post
+both-noted t c =
+    let a = node-arm t (c .before .before .before .before .before .before .before .before .before .before .before .before .before .before .before .before .before .before) refl in
+    let x = read-at (c .before .before .before .before .before .before .before .before .before .facts-at11 .ensures) (c .before .before .before .before .before .before .before .before .before .before .before .before .collect-facts12 .ensures .0 .right _ (c .before .before .before .before .before .before .before .before .before .before .before .before .before .before .before .collect-facts11 .ensures .1)) in
+    let y = read-at (c .before .before .before .before .before .before .before .facts-at12 .ensures) (c .before .before .before .before .before .before .before .before .before .before .before .before .collect-facts12 .ensures .1) in
+    let h = kept-on (c .before .before .before .before .before .before .before .before .before .before .before .before .before .before .before .before .before .before .before .before .before .before .pre .1 .1) (kept-then (c .before .before .before .before .before .before .before .before .before .before .before .before .before .before .before .collect-facts11 .ensures .0) (c .before .before .before .before .before .before .before .before .before .before .before .before .collect-facts12 .ensures .0)) in
+    after (kept-then (c .before .before .before .before .before .before .before .before .before .before .before .before .before .before .before .collect-facts11 .ensures .0) (c .before .before .before .before .before .before .before .before .before .before .before .before .collect-facts12 .ensures .0))
+    (put-kept (c .before .put-facts13 .ensures) (h .1)
+    (law.both-at (both t (c .before .before .before .before .before .before .before .before .before .before .before .before .before .before .before .before .before)) a x y (c .before .before .before .joined4 .ensures .0) (c .before .before .before .joined4 .ensures .2) (ap mem (c .before .before .before .joined4 .ensures .1) ∙ c .before .before .before .before .before .before .both .ensures) (c .before .before .before .joined4 .ensures .3)))
+
 pub +collect-facts-spec : {M : Type 1} → statement M
 +collect-facts-spec =
     close μ-collect-facts
@@ -175,30 +276,30 @@ pub +collect-facts-spec : {M : Type 1} → statement M
     (λ c κs. let a = node-arm t (c .before .before .before .before .before .before .before .before .before .before) refl in within (law.of-both (both t (c .before .before .before .before .before .before .before .before .before)) a .1) (kept-on (c .before .before .before .before .before .before .before .before .before .before .before .before .before .before .pre .1 .1) (kept-then (c .before .before .before .before .before .before .before .collect-facts11 .ensures .0) (c .before .before .before .before .collect-facts12 .ensures .0))))
     (λ c κs. search needs)
     (λ c κs. search needs)
-    (λ c κs. let h = kept-on (c .before .before .before .before .before .before .before .before .before .before .before .before .before .before .before .before .before .before .pre .1 .1) (kept-then (c .before .before .before .before .before .before .before .before .before .before .before .collect-facts11 .ensures .0) (c .before .before .before .before .before .before .before .before .collect-facts12 .ensures .0)) in h .1)
+    (λ c κs. let h = kept-on (c .before .before .before .before .before .before .before .before .before .before .before .before .before .before .before .before .before .before .before .before .pre .1 .1) (kept-then (c .before .before .before .before .before .before .before .before .before .before .before .before .before .collect-facts11 .ensures .0) (c .before .before .before .before .before .before .before .before .before .before .collect-facts12 .ensures .0)) in h .1)
     (λ c. put-long (c .before .put-facts .ensures) ∙ c .before .before .before .before .before .before .before .before .before .before .collect-facts2 .ensures .0 .long ∙ c .before .before .before .before .before .before .before .before .before .before .before .before .before .collect-facts .ensures .0 .long)
-    (λ c. let a = node-arm t (c .before .before .before .before .before .before .before .before .before .before .before .before .before .before .before .before .before .before) (c .before .before .before .before .before .before .before .before .before .before .before .before .before .before .before .before .node7 .given .1) in let x = read-at (c .before .before .before .before .before .before .before .facts-at .ensures) (c .before .before .before .before .before .before .before .before .before .before .collect-facts2 .ensures .0 .right _ (c .before .before .before .before .before .before .before .before .before .before .before .before .before .collect-facts .ensures .1)) in let y = read-at (c .before .before .before .before .before .facts-at2 .ensures) (c .before .before .before .before .before .before .before .before .before .before .collect-facts2 .ensures .1) in let h = kept-on (c .before .before .before .before .before .before .before .before .before .before .before .before .before .before .before .before .before .before .before .before .before .before .pre .1 .1) (kept-then (c .before .before .before .before .before .before .before .before .before .before .before .before .before .collect-facts .ensures .0) (c .before .before .before .before .before .before .before .before .before .before .collect-facts2 .ensures .0)) in after (kept-then (c .before .before .before .before .before .before .before .before .before .before .before .before .before .collect-facts .ensures .0) (c .before .before .before .before .before .before .before .before .before .before .collect-facts2 .ensures .0)) (put-kept (c .before .put-facts .ensures) (h .1) (law.since-at a x y (c .before .before .before .joined .ensures .0) (c .before .before .before .joined .ensures .2) (ap mem (c .before .before .before .joined .ensures .1)))))
+    (since-noted t)
     (λ c. put-long (c .before .put-facts2 .ensures) ∙ c .before .before .before .before .before .before .before .before .before .before .collect-facts4 .ensures .0 .long ∙ c .before .before .before .before .before .before .before .before .before .before .before .before .before .collect-facts3 .ensures .0 .long)
-    (λ c. let a = node-arm t (c .before .before .before .before .before .before .before .before .before .before .before .before .before .before .before .before .before .before) (c .before .before .before .before .before .before .before .before .before .before .before .before .before .before .before .before .node8 .given .1) in let x = read-at (c .before .before .before .before .before .before .before .facts-at3 .ensures) (c .before .before .before .before .before .before .before .before .before .before .collect-facts4 .ensures .0 .right _ (c .before .before .before .before .before .before .before .before .before .before .before .before .before .collect-facts3 .ensures .1)) in let y = read-at (c .before .before .before .before .before .facts-at4 .ensures) (c .before .before .before .before .before .before .before .before .before .before .collect-facts4 .ensures .1) in let h = kept-on (c .before .before .before .before .before .before .before .before .before .before .before .before .before .before .before .before .before .before .before .before .before .before .pre .1 .1) (kept-then (c .before .before .before .before .before .before .before .before .before .before .before .before .before .collect-facts3 .ensures .0) (c .before .before .before .before .before .before .before .before .before .before .collect-facts4 .ensures .0)) in after (kept-then (c .before .before .before .before .before .before .before .before .before .before .before .before .before .collect-facts3 .ensures .0) (c .before .before .before .before .before .before .before .before .before .before .collect-facts4 .ensures .0)) (put-kept (c .before .put-facts2 .ensures) (h .1) (law.comparison-at a x y (c .before .before .before .joined2 .ensures .0) (c .before .before .before .joined2 .ensures .2) (ap mem (c .before .before .before .joined2 .ensures .1) ∙ c .before .before .before .before .tied-var .ensures))))
+    (comparison-noted t)
     (λ c. put-long (c .before .put-facts3 .ensures) ∙ c .before .before .before .before .before .before .before .before .collect-facts5 .ensures .0 .long)
-    (λ c. let a = node-arm t (c .before .before .before .before .before .before .before .before .before .before .before .before .before) (c .before .before .before .before .before .before .before .before .before .before .before .node14 .given .1) in let x = read-at (c .before .before .before .before .before .facts-at5 .ensures) (c .before .before .before .before .before .before .before .before .collect-facts5 .ensures .1) in let h = kept-on (c .before .before .before .before .before .before .before .before .before .before .before .before .before .before .before .before .before .pre .1 .1) (c .before .before .before .before .before .before .before .before .collect-facts5 .ensures .0) in after (c .before .before .before .before .before .before .before .before .collect-facts5 .ensures .0) (put-kept (c .before .put-facts3 .ensures) (h .1) (law.exists-at a x (c .before .before .before .before .slot-name .ensures) (c .before .before .before .bound .ensures .0) (c .before .before .before .bound .ensures .1) (c .before .before .before .bound .ensures .2))))
+    (exists-noted t)
     (λ c. put-long (c .before .put-facts4 .ensures))
-    (λ c. put-kept (c .before .put-facts4 .ensures) (c .before .before .before .before .before .before .before .before .before .before .before .before .before .pre .1 .1 .1) (law.tp-at (node-arm t (c .before .before .before .before .before .before .before .before .before) (c .before .before .before .before .before .before .before .node17 .given .1)) (c .before .before .before .before .before .slot-name2 .ensures) (ap mem (c .before .before .before .naming .ensures .0)) (ap mem (c .before .before .before .naming .ensures .1)) (c .before .before .before .naming .ensures .2 ∙ c .before .before .before .before .is-sigil .ensures)))
+    (tp-noted t)
     (λ c. put-long (c .before .put-facts5 .ensures))
-    (λ c. put-kept (c .before .put-facts5 .ensures) (c .before .before .before .before .before .before .before .before .before .before .before .before .pre .1 .1 .1) (law.var-at (node-arm t (c .before .before .before .before .before .before .before .before) (c .before .before .before .before .before .before .node18 .given .1)) (c .before .before .before .before .single .ensures) (ap mem (c .before .before .before .naming2 .ensures .0)) (ap mem (c .before .before .before .naming2 .ensures .1)) (c .before .before .before .naming2 .ensures .2)))
+    (var-noted t)
     (λ c. put-long (c .before .put-facts6 .ensures))
-    (λ c. put-kept (c .before .put-facts6 .ensures) (c .before .before .before .before .before .before .before .before .before .pre .1 .1 .1) (law.opaque-at (node-arm t (c .before .before .before .before .before) refl) (c .before .before .before .before .match .keys19) (c .before .before .before .nameless .ensures .0) (c .before .before .before .nameless .ensures .1) (c .before .before .before .nameless .ensures .2)))
+    (call-noted t)
     (λ c. put-long (c .before .put-facts7 .ensures))
-    (λ c. put-kept (c .before .put-facts7 .ensures) (c .before .before .before .before .before .before .before .before .before .pre .1 .1 .1) (law.opaque-term-at (node-arm t (c .before .before .before .before .before) refl) (c .before .before .before .before .match .keys20) (c .before .before .before .nameless2 .ensures .0) (c .before .before .before .nameless2 .ensures .1) (c .before .before .before .nameless2 .ensures .2)))
+    (opaque-noted t)
     (λ c. put-long (c .before .put-facts8 .ensures))
-    (λ c. put-kept (c .before .put-facts8 .ensures) (c .before .before .before .before .before .before .before .before .before .pre .1 .1 .1) (law.other-at (node-arm t (c .before .before .before .before .before) refl) (c .before .before .before .before .match .keys21) (c .before .before .before .nameless3 .ensures .0) (c .before .before .before .nameless3 .ensures .1) (c .before .before .before .nameless3 .ensures .2)))
+    (other-noted t)
     (λ c. put-long (c .before .put-facts9 .ensures) ∙ c .before .before .before .before .before .before .before .before .before .collect-facts6 .ensures .0 .long)
-    (λ c. let a = node-arm t (c .before .before .before .before .before .before .before .before .before .before .before .before) refl in let x = read-at (c .before .before .before .before .before .before .facts-at6 .ensures) (c .before .before .before .before .before .before .before .before .before .collect-facts6 .ensures .1) in let h = kept-on (c .before .before .before .before .before .before .before .before .before .before .before .before .before .before .before .before .pre .1 .1) (c .before .before .before .before .before .before .before .before .before .collect-facts6 .ensures .0) in after (c .before .before .before .before .before .before .before .before .before .collect-facts6 .ensures .0) (put-kept (c .before .put-facts9 .ensures) (h .1) (law.aggregate-at (gathers t (c .before .before .before .before .before .before .before .before .before .before .before)) a x (c .before .before .before .before .before .binder-names .ensures) (ap mem (c .before .before .before .loose .ensures .0) ∙ c .before .before .before .before .bound2 .ensures .0) (c .before .before .before .loose .ensures .1) (c .before .before .before .loose .ensures .2 ∙ c .before .before .before .before .bound2 .ensures .2))))
+    (aggregate-noted t)
     (λ c. put-long (c .before .put-facts10 .ensures) ∙ c .before .before .before .before .before .before .collect-facts7 .ensures .0 .long)
-    (λ c. let a = node-arm t (c .before .before .before .before .before .before .before .before .before) refl in let x = read-at (c .before .before .before .facts-at7 .ensures) (c .before .before .before .before .before .before .collect-facts7 .ensures .1) in let h = kept-on (c .before .before .before .before .before .before .before .before .before .before .before .before .before .pre .1 .1) (c .before .before .before .before .before .before .collect-facts7 .ensures .0) in after (c .before .before .before .before .before .before .collect-facts7 .ensures .0) (put-kept (c .before .put-facts10 .ensures) (h .1) (law.same-at (same t (c .before .before .before .before .before .before .before .before)) a x)))
+    (same-noted t)
     (λ c. put-long (c .before .put-facts11 .ensures) ∙ c .before .before .before .before .before .before .before .collect-facts8 .ensures .0 .long)
-    (λ c. let a = node-arm t (c .before .before .before .before .before .before .before .before .before .before) refl in let x = read-at (c .before .before .before .before .facts-at8 .ensures) (c .before .before .before .before .before .before .before .collect-facts8 .ensures .1) in let h = kept-on (c .before .before .before .before .before .before .before .before .before .before .before .before .before .before .pre .1 .1) (c .before .before .before .before .before .before .before .collect-facts8 .ensures .0) in after (c .before .before .before .before .before .before .before .collect-facts8 .ensures .0) (put-kept (c .before .put-facts11 .ensures) (h .1) (law.loosened-at (loosened t (c .before .before .before .before .before .before .before .before .before)) a x (c .before .before .before .loose2 .ensures .0) (c .before .before .before .loose2 .ensures .1) (c .before .before .before .loose2 .ensures .2))))
+    (loosened-noted t)
     (λ c. put-long (c .before .put-facts12 .ensures) ∙ c .before .before .before .before .before .before .before .before .before .before .collect-facts10 .ensures .0 .long ∙ c .before .before .before .before .before .before .before .before .before .before .before .before .before .collect-facts9 .ensures .0 .long)
-    (λ c. let a = node-arm t (c .before .before .before .before .before .before .before .before .before .before .before .before .before .before .before .before) refl in let x = read-at (c .before .before .before .before .before .before .before .facts-at9 .ensures) (c .before .before .before .before .before .before .before .before .before .before .collect-facts10 .ensures .0 .right _ (c .before .before .before .before .before .before .before .before .before .before .before .before .before .collect-facts9 .ensures .1)) in let y = read-at (c .before .before .before .before .before .facts-at10 .ensures) (c .before .before .before .before .before .before .before .before .before .before .collect-facts10 .ensures .1) in let h = kept-on (c .before .before .before .before .before .before .before .before .before .before .before .before .before .before .before .before .before .before .before .before .pre .1 .1) (kept-then (c .before .before .before .before .before .before .before .before .before .before .before .before .before .collect-facts9 .ensures .0) (c .before .before .before .before .before .before .before .before .before .before .collect-facts10 .ensures .0)) in after (kept-then (c .before .before .before .before .before .before .before .before .before .before .before .before .before .collect-facts9 .ensures .0) (c .before .before .before .before .before .before .before .before .before .before .collect-facts10 .ensures .0)) (put-kept (c .before .put-facts12 .ensures) (h .1) (law.neither-at (neither t (c .before .before .before .before .before .before .before .before .before .before .before .before .before .before .before)) a x y (c .before .before .before .joined3 .ensures .0) (c .before .before .before .joined3 .ensures .2) (ap mem (c .before .before .before .joined3 .ensures .1) ∙ c .before .before .before .before .empty .ensures))))
-    (λ c. put-long (c .before .put-facts13 .ensures) ∙ c .before .before .before .before .before .before .before .before .before .before .collect-facts12 .ensures .0 .long ∙ c .before .before .before .before .before .before .before .before .before .before .before .before .before .collect-facts11 .ensures .0 .long)
-    (λ c. let a = node-arm t (c .before .before .before .before .before .before .before .before .before .before .before .before .before .before .before .before) refl in let x = read-at (c .before .before .before .before .before .before .before .facts-at11 .ensures) (c .before .before .before .before .before .before .before .before .before .before .collect-facts12 .ensures .0 .right _ (c .before .before .before .before .before .before .before .before .before .before .before .before .before .collect-facts11 .ensures .1)) in let y = read-at (c .before .before .before .before .before .facts-at12 .ensures) (c .before .before .before .before .before .before .before .before .before .before .collect-facts12 .ensures .1) in let h = kept-on (c .before .before .before .before .before .before .before .before .before .before .before .before .before .before .before .before .before .before .before .before .pre .1 .1) (kept-then (c .before .before .before .before .before .before .before .before .before .before .before .before .before .collect-facts11 .ensures .0) (c .before .before .before .before .before .before .before .before .before .before .collect-facts12 .ensures .0)) in after (kept-then (c .before .before .before .before .before .before .before .before .before .before .before .before .before .collect-facts11 .ensures .0) (c .before .before .before .before .before .before .before .before .before .before .collect-facts12 .ensures .0)) (put-kept (c .before .put-facts13 .ensures) (h .1) (law.both-at (both t (c .before .before .before .before .before .before .before .before .before .before .before .before .before .before .before)) a x y (c .before .before .before .joined4 .ensures .0) (c .before .before .before .joined4 .ensures .2) (ap mem (c .before .before .before .joined4 .ensures .1) ∙ c .before .before .before .before .both .ensures)))))
+    (neither-noted t)
+    (λ c. put-long (c .before .put-facts13 .ensures) ∙ c .before .before .before .before .before .before .before .before .before .before .before .before .collect-facts12 .ensures .0 .long ∙ c .before .before .before .before .before .before .before .before .before .before .before .before .before .before .before .collect-facts11 .ensures .0 .long)
+    (both-noted t))

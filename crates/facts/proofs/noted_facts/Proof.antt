@@ -7,12 +7,15 @@ use Rattle.facts.proofs.noted_facts.Tie as tie
 
 returns : tie.Need-returns
 unfolding facts-of
-returns c = search needs
+returns c = refl
 
 pub noted-facts-spec : {M : Type 1} → statement M
 noted-facts-spec =
     tie.close
     (tie.spec
+    (λ c. search needs)
+    (λ c. search needs)
+    (λ c. search needs)
     (λ c. search needs)
     (λ c. search needs)
     (λ c. search needs)

@@ -1,5 +1,5 @@
 -- `row_of` makes the row that holds the facts.
-use mathlib.Core.Path.{_≡_, ap, _∙_}
+use mathlib.Core.Path.{_≡_, ap₂, _∙_}
 use mathlib.Core.Bool.{Bool}
 use borrow.Author.Needs.{needs}
 use Rattle.facts.specs.declared.Facts.{Facts}
@@ -11,7 +11,7 @@ returns : tie.Need-returns
 unfolding facts-of
 returns c =
     let f = c .before .before .before .args .f in
-    ap (λ (b : Bool). record { free = f .free; restricted = f .restricted; sigil = b }) (c .flag .ensures)
+    ap₂ (λ (a b : Bool). record { free = f .free; restricted = f .restricted; sigil = a; plain = b }) (c .marks .ensures .0) (c .marks .ensures .1)
 
 pub row-of-spec : {M : Type 1} → statement M
 row-of-spec = tie.close (tie.spec (λ c κs. search needs) returns)

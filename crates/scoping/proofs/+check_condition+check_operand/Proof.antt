@@ -9,7 +9,7 @@ use Rattle.paper.specs.declared.Node.{Node}
 use Rattle.paper.specs.declared.Node.the-variants as node
 use Rattle.paper.specs.Sets.{_∪_}
 use Rattle.trees.proofs.Arms.{Arm, arm}
-use Rattle.facts.proofs.NotedLaws.{under}
+use Rattle.facts.proofs.NotedLaws.{under, plain-body}
 use Rattle.trees.proofs.Shapes.{Two, Plain, Aggregate, not, sum, count, of-two, of-plain, of-aggregate, met₁, met₂}
 use Rattle.trees.proofs.Shapes.Two.{and as two-and, or, since}
 use Rattle.trees.proofs.Shapes.One.{formerly, previous}
@@ -18,7 +18,7 @@ use Rattle.trees.proofs.Joins.{two-law, plain-law}
 use Rattle.trees.proofs.Sorts.{a-body}
 use Rattle.free.proofs.FreeLaws.{slot-tabled}
 use Rattle.writes.proofs.WriteLaws.{wrote-none, wrote-then, wrote-is, room-is, room-first, room-rest}
-use Rattle.scoping.proofs.ScopingLaws.{scoped-two, scoped-one, scoped-refine, scoped-comparison, scoped-predicate, scoped-tp, scoped-exists, scoped-arith, scoped-array, scoped-skipped, scoped-aggregate, scoped-none, operand-none}
+use Rattle.scoping.proofs.ScopingLaws.{plain-scoped, scoped-two, scoped-one, scoped-refine, scoped-comparison, scoped-predicate, scoped-tp, scoped-exists, scoped-arith, scoped-array, scoped-skipped, scoped-aggregate, scoped-none, operand-none}
 use Prim.Native.Nat.{ℕ, _<_}
 use borrow.Fn.Kinds.{In}
 use borrow.Fn.PlainCycle.{Measures, is, falls, and}
@@ -37,6 +37,7 @@ use Rattle.places.proofs.binders.check_exists_safe.Reads as check-exists-safe-r
 use Rattle.places.proofs.binders.reject_reserved_binder.Reads as reject-reserved-binder-reads
 use Rattle.places.proofs.nested.reject_nested_agg.Reads as reject-nested-agg-reads
 use Rattle.record.proofs.access.node_at.Reads as node-at-reads
+use Rattle.facts.proofs.is_plain.Reads as is-plain-reads
 use Rattle.scoping.proofs.+check_condition+check_operand.{statement}
 use Rattle.scoping.proofs.+check_condition+check_operand.Tie.{close}
 
@@ -60,6 +61,8 @@ operand-below t = and 4 check-operand-kinds.ps (falls 4 check-operand-kinds.ps _
 
 abbrev condition-claims : ℕ → check-condition-lts.Claims
 condition-claims t = (
+  is-plain-reads.Asked,
+  is-plain-reads.Learnt,
   node-at-reads.Asked,
   node-at-reads.Learnt,
   reject-reserved-binder-reads.Asked,
@@ -99,8 +102,8 @@ operand-claims t = (
 )
 
 condition-arm : (t : ℕ) (c : check-condition-lts.After-node-at (condition-claims t) (condition-at t) check-condition.Post) {m : Node} → c .node-at .result ≡ m
-    → Arm (now (c .before .before .before .args .bytes)) (now (c .before .before .before .args .starts)) (c .before .before .before .args .i .0) m
-condition-arm t c p = arm _ _ _ _ _ (c .before .before .before .pre .1 .0 .0) (c .node-at .ensures) p
+    → Arm (now (c .before .before .before .before .before .args .bytes)) (now (c .before .before .before .before .before .args .starts)) (c .before .before .before .before .before .args .i .0) m
+condition-arm t c p = arm _ _ _ _ _ (c .before .before .before .before .before .pre .1 .0 .0) (c .node-at .ensures) p
 
 operand-arm : (t : ℕ) (c : check-operand-lts.After-node-at (operand-claims t) (operand-at t) check-operand.Post) {m : Node} → c .node-at .result ≡ m
     → Arm (now (c .before .before .before .args .bytes)) (now (c .before .before .before .args .starts)) (c .before .before .before .args .i .0) m
@@ -128,35 +131,35 @@ gathers t c =
     (λ w. met₂ Aggregate node.Count (λ l b. count) (w .1 .given .1) (w .3) (w .4))
     (c .match .came)
 
-condition-returns : (t : ℕ) → check-condition-lts.Need-returns (condition-claims t) (condition-at t) check-condition.Post
+condition-returns : (t : ℕ) → check-condition-lts.Need-returns-2 (condition-claims t) (condition-at t) check-condition.Post
 condition-returns t c =
     wrote-is (scoped-exists _ _ (c .before .before .before .before .union .ensures ∙ ap₂ _∪_ refl (c .before .before .before .before .before .slot-name .ensures))
     (condition-arm t (c .before .before .before .before .before .before .before .before .before .before .before .before .before .before .before .before .before) (c .before .before .before .before .before .before .before .before .before .before .before .before .before .before .before .node8 .given .1))) (wrote-then (c .before .before .before .before .before .before .before .before .before .before .before .before .reject-reserved-binder .ensures) (wrote-then (c .before .before .before .before .before .before .before .before .check-exists-safe .ensures) (c .before .before .check-condition .ensures)))
 
-condition-returns-2 : (t : ℕ) → check-condition-lts.Need-returns-2 (condition-claims t) (condition-at t) check-condition.Post
+condition-returns-2 : (t : ℕ) → check-condition-lts.Need-returns-3 (condition-claims t) (condition-at t) check-condition.Post
 condition-returns-2 t c =
     wrote-is (scoped-comparison _ _ (condition-arm t (c .before .before .before .before .before .before .before .before .before .before .before) (c .before .before .before .before .before .before .before .before .before .node9 .given .1))) (wrote-then (c .before .before .before .before .before .before .check-operand
     .ensures) (c .before .before .check-operand2 .ensures))
 
-condition-returns-3 : (t : ℕ) → check-condition-lts.Need-returns-3 (condition-claims t) (condition-at t) check-condition.Post
+condition-returns-3 : (t : ℕ) → check-condition-lts.Need-returns-4 (condition-claims t) (condition-at t) check-condition.Post
 condition-returns-3 t c =
     wrote-is (scoped-predicate _ _ (condition-arm t (c .before .before .before .before .before .before .before) (c .before .before .before .before .before .node10 .given .1))) (c .before .before .reject-nested-agg .ensures)
 
-condition-returns-4 : (t : ℕ) → check-condition-lts.Need-returns-4 (condition-claims t) (condition-at t) check-condition.Post
+condition-returns-4 : (t : ℕ) → check-condition-lts.Need-returns-5 (condition-claims t) (condition-at t) check-condition.Post
 condition-returns-4 t c =
     wrote-is (scoped-tp _ _ (condition-arm t (c .before .before .before .before .before .before .before) (c .before .before .before .before .before .node11 .given .1)))
     (c .before .before .reject-reserved-binder2 .ensures)
 
-condition-returns-5 : (t : ℕ) → check-condition-lts.Need-returns-5 (condition-claims t) (condition-at t) check-condition.Post
+condition-returns-5 : (t : ℕ) → check-condition-lts.Need-returns-6 (condition-claims t) (condition-at t) check-condition.Post
 condition-returns-5 t c =
     wrote-is (scoped-none _ _ (condition-arm t (c .before) refl) (c .match .keys12)) wrote-none
 
-condition-returns-6 : (t : ℕ) → check-condition-lts.Need-returns-6 (condition-claims t) (condition-at t) check-condition.Post
+condition-returns-6 : (t : ℕ) → check-condition-lts.Need-returns-7 (condition-claims t) (condition-at t) check-condition.Post
 condition-returns-6 t c =
     wrote-is (plain-law (scoped-one _ _) (scoped-refine _ _) (passes t (c .before .before .before .before)) (condition-arm t (c .before .before .before .before .before)
     refl)) (c .before .before .check-condition2 .ensures)
 
-condition-returns-7 : (t : ℕ) → check-condition-lts.Need-returns-7 (condition-claims t) (condition-at t) check-condition.Post
+condition-returns-7 : (t : ℕ) → check-condition-lts.Need-returns-8 (condition-claims t) (condition-at t) check-condition.Post
 condition-returns-7 t c =
     wrote-is (two-law (scoped-two _ _) (joins t (c .before .before .before .before .before .before .before .before)) (condition-arm t (c .before .before .before .before .before .before .before .before .before) refl)) (wrote-then (c .before .before .before .before .before .before .check-condition3 .ensures) (c .before .before .check-condition4 .ensures))
 
@@ -185,7 +188,9 @@ pub +check-condition+check-operand-spec : {M : Type 1} → statement M
 +check-condition+check-operand-spec =
     close μ-condition μ-operand
     (λ t. check-condition-lts.spec (condition-claims t) (condition-at t) check-condition.Post
-    (λ c κs. c .before .before .pre .1 .0 .0)
+    (λ c κs. let s = c .before .before .pre .1 .0 in (s .0 .1, s .1))
+    (λ c. wrote-is (plain-scoped _ _ _ (plain-body _ (sym (c .before .is-plain .ensures) ∙ c .if1 .taken))) wrote-none)
+    (λ c κs. c .before .before .before .before .pre .1 .0 .0)
     (λ c. search needs)
     (λ c. search needs)
     (λ c. search needs)
@@ -196,18 +201,18 @@ pub +check-condition+check-operand-spec : {M : Type 1} → statement M
     (λ c. search needs)
     (λ c κs. let a = condition-arm t (c .before .before .before .before) (c .before .before .node8 .given .1) in (
       slot-tabled (c .before .before .node8 .given .0 .0) (a .tabled),
-      room-first _ _ (room-is (scoped-exists _ _ refl a) (c .before .before .before .before .before .before .before .pre .1 .1)),
+      room-first _ _ (room-is (scoped-exists _ _ refl a) (c .before .before .before .before .before .before .before .before .before .pre .1 .1)),
     ))
     (λ c κs. let a = condition-arm t (c .before .before .before .before .before .before .before .before) (c .before .before .before .before .before .before .node8 .given .1) in (
-      (slot-tabled (c .before .before .before .before .before .before .node8 .given .0 .0) (a .tabled), a .children .0 .has .1, c .before .before .before .before .before .before .before .before .before .before .before .pre .1 .0 .1, a-body _ (a .children .0 .fits)),
+      (slot-tabled (c .before .before .before .before .before .before .node8 .given .0 .0) (a .tabled), a .children .0 .has .1, c .before .before .before .before .before .before .before .before .before .before .before .before .before .pre .1 .0 .1, a-body _ (a .children .0 .fits)),
       room-first _ _ (room-rest
           _ _ (c .before .before .before .reject-reserved-binder .ensures) (omega (arith, c .before .before .before .reject-reserved-binder .ensures .total)) (room-is
-          (scoped-exists _ _ refl a) (c .before .before .before .before .before .before .before .before .before .before .before .pre .1 .1))),
+          (scoped-exists _ _ refl a) (c .before .before .before .before .before .before .before .before .before .before .before .before .before .pre .1 .1))),
     ))
     (λ c κs. slot-tabled (c .before .before .before .before .before .before .before .before .before .node8 .given .0 .0) (condition-arm t (c .before .before .before .before .before .before .before .before .before .before .before) (c .before .before .before .before .before .before .before .before .before .node8 .given .1)
     .tabled))
     (λ c κs. search needs)
-    (λ c κs. let a = condition-arm t (c .before .before .before .before .before .before .before .before .before .before .before .before .before .before) (c .before .before .before .before .before .before .before .before .before .before .before .before .node8 .given .1) in let d = under (a .children .0) (c .before .before .before .before .before .before .before .before .before .before .before .before .before .before .before .before .before .pre .0) (c .before .before .before .before .before .before .before .before .before .before .before .before .before .before .before .before .before .pre .1 .0 .1) in (
+    (λ c κs. let a = condition-arm t (c .before .before .before .before .before .before .before .before .before .before .before .before .before .before) (c .before .before .before .before .before .before .before .before .before .before .before .before .node8 .given .1) in let d = under (a .children .0) (c .before .before .before .before .before .before .before .before .before .before .before .before .before .before .before .before .before .before .before .pre .0) (c .before .before .before .before .before .before .before .before .before .before .before .before .before .before .before .before .before .before .before .pre .1 .0 .1) in (
       d .0,
       (
         d .1,
@@ -221,46 +226,46 @@ pub +check-condition+check-operand-spec : {M : Type 1} → statement M
               c .before .before .before .before .before .check-exists-safe .ensures .total,
               c .before .before .before .before .before .before .before .before .before .reject-reserved-binder .ensures .total,
             )) (room-is
-            (scoped-exists _ _ (c .before .union .ensures ∙ ap₂ _∪_ refl (c .before .before .slot-name .ensures)) a) (c .before .before .before .before .before .before .before .before .before .before .before .before .before .before .before .before .before .pre .1 .1))),
+            (scoped-exists _ _ (c .before .union .ensures ∙ ap₂ _∪_ refl (c .before .before .slot-name .ensures)) a) (c .before .before .before .before .before .before .before .before .before .before .before .before .before .before .before .before .before .before .before .pre .1 .1))),
       ),
     ))
     (λ c. search needs)
-    (λ c κs. let a = condition-arm t (c .before .before .before .before) (c .before .before .node9 .given .1) in let d = under (a .children .0) (c .before .before .before .before .before .before .before .pre .0) (c .before .before .before .before .before .before .before .pre .1 .0 .1) in (
+    (λ c κs. let a = condition-arm t (c .before .before .before .before) (c .before .before .node9 .given .1) in let d = under (a .children .0) (c .before .before .before .before .before .before .before .before .before .pre .0) (c .before .before .before .before .before .before .before .before .before .pre .1 .0 .1) in (
       d .0,
       (
         d .1,
-        room-first _ _ (room-is (scoped-comparison _ _ a) (c .before .before .before .before .before .before .before .pre .1 .1)),
+        room-first _ _ (room-is (scoped-comparison _ _ a) (c .before .before .before .before .before .before .before .before .before .pre .1 .1)),
       ),
     ))
-    (λ c κs. let a = condition-arm t (c .before .before .before .before .before .before .before .before) (c .before .before .before .before .before .before .node9 .given .1) in let d = under (a .children .1 .0) (c .before .before .before .before .before .before .before .before .before .before .before .pre .0) (c .before .before .before .before .before .before .before .before .before .before .before .pre .1 .0 .1) in (
+    (λ c κs. let a = condition-arm t (c .before .before .before .before .before .before .before .before) (c .before .before .before .before .before .before .node9 .given .1) in let d = under (a .children .1 .0) (c .before .before .before .before .before .before .before .before .before .before .before .before .before .pre .0) (c .before .before .before .before .before .before .before .before .before .before .before .before .before .pre .1 .0 .1) in (
       d .0,
       (
         d .1,
         room-rest _ _ (c .before .before .before .check-operand .ensures) (omega (arith, c .before .before .before .check-operand .ensures .total)) (room-is
-            (scoped-comparison _ _ a) (c .before .before .before .before .before .before .before .before .before .before .before .pre .1 .1)),
+            (scoped-comparison _ _ a) (c .before .before .before .before .before .before .before .before .before .before .before .before .before .pre .1 .1)),
       ),
     ))
     (λ c. search needs)
     (λ c κs. let a = condition-arm t (c .before .before .before .before) (c .before .before .node10 .given .1) in (
       a .children .0 .has,
       room-is (scoped-predicate _ _ a)
-          (c .before .before .before .before .before .before .before .pre .1 .1),
+          (c .before .before .before .before .before .before .before .before .before .pre .1 .1),
     ))
     (λ c. search needs)
     (λ c κs. let a = condition-arm t (c .before .before .before .before) (c .before .before .node11 .given .1) in (
       slot-tabled (c .before .before .node11 .given .0 .0)
           (a .tabled),
-      room-is (scoped-tp _ _ a) (c .before .before .before .before .before .before .before .pre .1 .1),
+      room-is (scoped-tp _ _ a) (c .before .before .before .before .before .before .before .before .before .pre .1 .1),
     ))
-    (λ c κs. let a = condition-arm t (c .before .before) refl in let d = under (of-plain (passes t (c .before)) a) (c .before .before .before .before .before .pre .0) (c .before .before .before .before .before .pre .1 .0 .1) in
-    (d .0, (d .1, room-is (plain-law (scoped-one _ _) (scoped-refine _ _) (passes t (c .before)) a) (c .before .before .before .before .before .pre .1 .1))))
-    (λ c κs. let a = condition-arm t (c .before .before) refl in let d = under (of-two (joins t (c .before)) a .0) (c .before .before .before .before .before .pre .0) (c .before .before .before .before .before .pre .1 .0 .1) in
-    (d .0, (d .1, room-first _ _ (room-is (two-law (scoped-two _ _) (joins t (c .before)) a) (c .before .before .before .before .before .pre .1 .1)))))
-    (λ c κs. let a = condition-arm t (c .before .before .before .before .before .before) refl in let d = under (of-two (joins t (c .before .before .before .before .before)) a .1) (c .before .before .before .before .before .before .before .before .before .pre .0) (c .before .before .before .before .before .before .before .before .before .pre .1 .0 .1) in (
+    (λ c κs. let a = condition-arm t (c .before .before) refl in let d = under (of-plain (passes t (c .before)) a) (c .before .before .before .before .before .before .before .pre .0) (c .before .before .before .before .before .before .before .pre .1 .0 .1) in
+    (d .0, (d .1, room-is (plain-law (scoped-one _ _) (scoped-refine _ _) (passes t (c .before)) a) (c .before .before .before .before .before .before .before .pre .1 .1))))
+    (λ c κs. let a = condition-arm t (c .before .before) refl in let d = under (of-two (joins t (c .before)) a .0) (c .before .before .before .before .before .before .before .pre .0) (c .before .before .before .before .before .before .before .pre .1 .0 .1) in
+    (d .0, (d .1, room-first _ _ (room-is (two-law (scoped-two _ _) (joins t (c .before)) a) (c .before .before .before .before .before .before .before .pre .1 .1)))))
+    (λ c κs. let a = condition-arm t (c .before .before .before .before .before .before) refl in let d = under (of-two (joins t (c .before .before .before .before .before)) a .1) (c .before .before .before .before .before .before .before .before .before .before .before .pre .0) (c .before .before .before .before .before .before .before .before .before .before .before .pre .1 .0 .1) in (
       d .0,
       (
         d .1,
-        room-rest _ _ (c .before .before .before .check-condition3 .ensures) (omega (arith, c .before .before .before .check-condition3 .ensures .total)) (room-is (two-law (scoped-two _ _) (joins t (c .before .before .before .before .before)) a) (c .before .before .before .before .before .before .before .before .before .pre .1 .1)),
+        room-rest _ _ (c .before .before .before .check-condition3 .ensures) (omega (arith, c .before .before .before .check-condition3 .ensures .total)) (room-is (two-law (scoped-two _ _) (joins t (c .before .before .before .before .before)) a) (c .before .before .before .before .before .before .before .before .before .before .before .pre .1 .1)),
       ),
     ))
     (λ c. search needs)

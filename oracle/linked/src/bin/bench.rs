@@ -14,7 +14,10 @@ use linked::records::{deep_by_terms, rule, tower, tower_over_all, Plan, LAYERS};
 use linked::{Library, Proved};
 use plain::random::{record, Rng};
 
-const RUNS: usize = 15;
+/// Enough that the processor is at its pace for some of them.
+const RUNS: usize = 300;
+/// Of each record, to find the slowest.
+const TRIES: usize = 15;
 const RECORDS: usize = 200;
 /// More than any of these lists has.
 const ROOM: usize = 65_536;
@@ -128,20 +131,38 @@ fn say(label: &str, subjects: &[Subject]) {
     );
 }
 
+/// The four take turns, so that a slow moment of the machine falls on all of them.
 fn measure(subjects: &[Subject]) -> Figures {
     let mut lent = vec![0; ROOM];
-    Figures {
-        rust: best(subjects, |subject| the_rust(&subject.condition)),
-        list: best(subjects, |subject| Proved.list(&subject.bytes, &mut lent)),
-        four: best(subjects, |subject| the_four(&subject.bytes)),
-        reading: best(subjects, |subject| Proved.name(&subject.bytes, 255)),
+    let mut best = Figures {
+        rust: f64::MAX,
+        list: f64::MAX,
+        four: f64::MAX,
+        reading: f64::MAX,
+    };
+    for _ in 0..RUNS {
+        best.rust = best
+            .rust
+            .min(timed(subjects, |subject| the_rust(&subject.condition)));
+        best.list = best.list.min(timed(subjects, |subject| {
+            Proved.list(&subject.bytes, &mut lent)
+        }));
+        best.four = best
+            .four
+            .min(timed(subjects, |subject| the_four(&subject.bytes)));
+        best.reading = best
+            .reading
+            .min(timed(subjects, |subject| Proved.name(&subject.bytes, 255)));
     }
+    best
 }
 
 fn a_list(subject: &Subject) -> f64 {
     let mut lent = vec![0; ROOM];
     let one = std::slice::from_ref(subject);
-    best(one, |subject| Proved.list(&subject.bytes, &mut lent))
+    (0..TRIES)
+        .map(|_| timed(one, |subject| Proved.list(&subject.bytes, &mut lent)))
+        .fold(f64::MAX, f64::min)
 }
 
 fn the_rust(condition: &Condition) -> [bool; 4] {
@@ -163,14 +184,10 @@ fn the_four(bytes: &[u8]) -> [u32; 4] {
 }
 
 /// Nanoseconds a record.
-fn best<T>(subjects: &[Subject], mut ask: impl FnMut(&Subject) -> T) -> f64 {
-    let mut best = f64::MAX;
-    for _ in 0..RUNS {
-        let start = Instant::now();
-        for subject in subjects {
-            black_box(ask(black_box(subject)));
-        }
-        best = best.min(start.elapsed().as_nanos() as f64);
+fn timed<T>(subjects: &[Subject], mut ask: impl FnMut(&Subject) -> T) -> f64 {
+    let start = Instant::now();
+    for subject in subjects {
+        black_box(ask(black_box(subject)));
     }
-    best / subjects.len() as f64
+    start.elapsed().as_nanos() as f64 / subjects.len() as f64
 }
