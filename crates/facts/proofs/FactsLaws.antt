@@ -13,14 +13,14 @@ use Rattle.paper.specs.declared.Slot.{Slot}
 use Rattle.paper.specs.declared.Node.{Node}
 use Rattle.paper.specs.declared.Node.the-variants as node
 use Rattle.paper.specs.Sets.{Set, none, only, _∪_, _∖_}
-use Rattle.paper.specs.Record.{Sort, condition, term, arguments, items, node-no}
+use Rattle.paper.specs.Record.{Sort, condition, term, arguments, items}
 use Rattle.paper.proofs.Weights.{of-sort}
 use Rattle.record.specs.Stored.{Has}
 use Rattle.paper.specs.Tree as tree
 use Rattle.paper.specs.Tree.{Tree, as-condition, as-term, as-arguments, planted}
-use Rattle.paper.specs.FreeAndRestricted.{named, free, restricted, holds-sigil, is-sigil, bare, about, direct, tied, tied-name, binder-names, term-sigil}
+use Rattle.paper.specs.FreeAndRestricted.{named, free, restricted, is-sigil, bare, about, direct, tied, tied-name, binder-names, term-sigil}
 use Rattle.names.specs.Words.{mem}
-use Rattle.trees.specs.Trees.{tree-of, condition-of, term-of, arguments-of, binders-of, in-terms, is-condition}
+use Rattle.trees.specs.Trees.{tree-of, condition-of, term-of, binders-of, in-terms, is-condition}
 use Rattle.trees.specs.Terms.{free-in, sigil-in}
 use Rattle.trees.proofs.Arms.{Child, Arm}
 use Rattle.trees.proofs.Sorts.{at-term, at-arguments, a-body, no-body}
@@ -29,7 +29,7 @@ use Rattle.trees.proofs.Shapes as shape
 use Rattle.trees.proofs.ByKind.{condition-kinds, by-kind, condition-kind, keyed, among-more, in-terms-cases}
 use Rattle.trees.proofs.Joins.{two-law, one-law, body-law, terms-law, array-law, comparison-law, predicate-law, refine-law}
 use Rattle.free.proofs.FreeLaws.{free-two, free-one, free-fields, free-terms, in-free, free-tp, free-exists, free-var, free-aggregate, no-free-kinds, no-free, no-var-kinds, no-var}
-use Rattle.sigils.proofs.SigilLaws.{sigil-two, sigil-one, sigil-exists, sigil-fields, sigil-terms, in-body, sigil-tp, sigil-aggregate, opaque-body, plain-body, opaque-term, plain-term-kinds, plain-term}
+use Rattle.sigils.proofs.SigilLaws.{sigil-two, sigil-one, sigil-exists, sigil-fields, sigil-terms, in-body, sigil-tp, sigil-aggregate, opaque-body, opaque-term, no-sigil-term-kinds, no-sigil-term}
 use Rattle.vars.proofs.RestrictedLaws.{in-restricted, restricted-and, restricted-predicate, restricted-tp, restricted-comparison, restricted-anchor, restricted-exists, restricted-refine, restricts-nothing-kinds, restricts-nothing}
 use Rattle.facts.specs.Plain.{plain-argument, plain-arguments, plain, plain-at}
 use Rattle.facts.specs.declared.Facts.{Facts}
@@ -223,7 +223,7 @@ module _ {bytes starts : List ℕ} {i : ℕ} where
       record {
         free = p ∙ sym (ap free-in (a .tree) ∙ no-var _ _ _ (among-more other-term-kinds no-var-kinds _ refl h));
         restricted = e ∙ sym (ap direct-in (a .tree) ∙ no-direct _ _ _ (among-more other-term-kinds no-direct-kinds _ refl h));
-        sigil = q ∙ sym (ap sigil-in (a .tree) ∙ plain-term _ _ _ (among-more other-term-kinds plain-term-kinds _ refl h));
+        sigil = q ∙ sym (ap sigil-in (a .tree) ∙ no-sigil-term _ _ _ (among-more other-term-kinds no-sigil-term-kinds _ refl h));
       }
 
 -- what has no part

@@ -8,7 +8,7 @@ use record::access::node_at;
 use sigils::is_sigil;
 use vars::tied_var;
 ghost use mathlib.Core.Path.{_≡_};
-ghost use mathlib.Core.Bool.{_||_, _&&_, not, true, false};
+ghost use mathlib.Core.Bool.{_||_, not, true, false};
 ghost use Prim.Native.Nat.{_+_, _<_};
 ghost use lib.Dec.{eqb};
 ghost use lib.ListN.{length};

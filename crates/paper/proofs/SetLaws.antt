@@ -5,7 +5,7 @@ use mathlib.Core.List.{[]}
 use Prim.Native.Nat.{ℕ, zero, suc, _<_}
 use native.Mathlib.Omega.{arith}
 use native.Mathlib.Decide.{decLt}
-use Rattle.paper.specs.Sets.{Set, none, _∪_, all-below, members}
+use Rattle.paper.specs.Sets.{Set, all-below, members}
 
 -- what holds of all below n holds of each
 pub all-get : (n : ℕ) (a : Set) → all-below n a ≡ true → (k : ℕ) → k < n → a k ≡ true
@@ -24,7 +24,3 @@ pub members-none : (a : Set) (n : ℕ) → ((k : ℕ) → k < n → a k ≡ fals
 unfolding members
 members-none a zero f = refl
 members-none a (suc n) f = rw (members-none a n (λ k h. f k (omega arith)), f n (omega arith))
-
-pub none-joins : (a : Set) → none ∪ a ≡ a
-unfolding _∪_ none
-none-joins a = refl

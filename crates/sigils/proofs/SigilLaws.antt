@@ -88,21 +88,6 @@ opaque-body t n =
     (λ s h. absurd (miss opaque-body-kinds 10 tt h)) (λ y h. refl) (λ y h. refl)
     (λ m e h. absurd (no-other opaque-body-kinds condition-kinds _ refl h e))
 
--- no condition
-abbrev plain-body-kinds : List ℕ
-plain-body-kinds = 13 ∷ 14 ∷ 15 ∷ 16 ∷ 17 ∷ 18 ∷ 19 ∷ 20 ∷ 21 ∷ 22 ∷ 23 ∷ 24 ∷ 25 ∷ 26 ∷ 27 ∷ 28 ∷ []
-
-pub plain-body : (t : ℕ → Tree) (n : NodeNo) (m : Node) → OneOf plain-body-kinds (tagOf the-type m) → holds-sigil (as-condition (planted t n m)) ≡ false
-unfolding holds-sigil
-plain-body t n =
-    condition-cases t n (λ m z. OneOf plain-body-kinds (tagOf the-type m) → holds-sigil z ≡ false)
-    (λ l r h. absurd (miss plain-body-kinds 0 tt h)) (λ l r h. absurd (miss plain-body-kinds 1 tt h)) (λ b h. absurd (miss plain-body-kinds 2 tt h))
-    (λ b w h. absurd (miss plain-body-kinds 3 tt h)) (λ b w h. absurd (miss plain-body-kinds 4 tt h))
-    (λ l r w h. absurd (miss plain-body-kinds 5 tt h)) (λ s y b h. absurd (miss plain-body-kinds 6 tt h))
-    (λ o l r h. absurd (miss plain-body-kinds 7 tt h)) (λ a l h. absurd (miss plain-body-kinds 8 tt h))
-    (λ b l h. absurd (miss plain-body-kinds 9 tt h)) (λ s h. absurd (miss plain-body-kinds 10 tt h)) (λ y h. absurd (miss plain-body-kinds 11 tt h))
-    (λ y h. absurd (miss plain-body-kinds 12 tt h)) (λ m e h. refl)
-
 -- ParamRef, BinderRef and the aggregate Call
 abbrev opaque-term-kinds : List ℕ
 opaque-term-kinds = 18 ∷ 19 ∷ 24 ∷ []
@@ -119,15 +104,15 @@ opaque-term t n =
     (λ m e h. absurd (no-other opaque-term-kinds kinds-in-terms _ refl h e))
 
 -- what holds no sigil and no term
-abbrev pub plain-term-kinds : List ℕ
-plain-term-kinds = 0 ∷ 1 ∷ 2 ∷ 3 ∷ 4 ∷ 5 ∷ 6 ∷ 7 ∷ 8 ∷ 9 ∷ 10 ∷ 11 ∷ 12 ∷ 13 ∷ 14 ∷ 15 ∷ 16 ∷ 17 ∷ 25 ∷ 28 ∷ []
+abbrev pub no-sigil-term-kinds : List ℕ
+no-sigil-term-kinds = 0 ∷ 1 ∷ 2 ∷ 3 ∷ 4 ∷ 5 ∷ 6 ∷ 7 ∷ 8 ∷ 9 ∷ 10 ∷ 11 ∷ 12 ∷ 13 ∷ 14 ∷ 15 ∷ 16 ∷ 17 ∷ 25 ∷ 28 ∷ []
 
-pub plain-term : (t : ℕ → Tree) (n : NodeNo) (m : Node) → OneOf plain-term-kinds (tagOf the-type m) → sigil-in (planted t n m) ≡ false
+pub no-sigil-term : (t : ℕ → Tree) (n : NodeNo) (m : Node) → OneOf no-sigil-term-kinds (tagOf the-type m) → sigil-in (planted t n m) ≡ false
 unfolding term-sigil
-plain-term t n =
-    in-terms-cases term-sigil arguments-sigil items-sigil false t n (λ m z. OneOf plain-term-kinds (tagOf the-type m) → z ≡ false)
-    (λ x h. refl) (λ h. refl) (λ y h. refl) (λ y h. refl) (λ y h. refl) (λ k h. absurd (miss plain-term-kinds 18 tt h))
-    (λ k h. absurd (miss plain-term-kinds 19 tt h)) (λ l h. absurd (miss plain-term-kinds 20 tt h))
-    (λ o l r h. absurd (miss plain-term-kinds 21 tt h)) (λ s l b h. absurd (miss plain-term-kinds 22 tt h))
-    (λ l b h. absurd (miss plain-term-kinds 23 tt h)) (λ y h. absurd (miss plain-term-kinds 24 tt h))
-    (λ f x l h. absurd (miss plain-term-kinds 26 tt h)) (λ x l h. absurd (miss plain-term-kinds 27 tt h)) (λ m e h. refl)
+no-sigil-term t n =
+    in-terms-cases term-sigil arguments-sigil items-sigil false t n (λ m z. OneOf no-sigil-term-kinds (tagOf the-type m) → z ≡ false)
+    (λ x h. refl) (λ h. refl) (λ y h. refl) (λ y h. refl) (λ y h. refl) (λ k h. absurd (miss no-sigil-term-kinds 18 tt h))
+    (λ k h. absurd (miss no-sigil-term-kinds 19 tt h)) (λ l h. absurd (miss no-sigil-term-kinds 20 tt h))
+    (λ o l r h. absurd (miss no-sigil-term-kinds 21 tt h)) (λ s l b h. absurd (miss no-sigil-term-kinds 22 tt h))
+    (λ l b h. absurd (miss no-sigil-term-kinds 23 tt h)) (λ y h. absurd (miss no-sigil-term-kinds 24 tt h))
+    (λ f x l h. absurd (miss no-sigil-term-kinds 26 tt h)) (λ x l h. absurd (miss no-sigil-term-kinds 27 tt h)) (λ m e h. refl)

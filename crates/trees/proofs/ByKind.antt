@@ -31,9 +31,6 @@ condition-kinds = 0 ∷ 1 ∷ 2 ∷ 3 ∷ 4 ∷ 5 ∷ 6 ∷ 7 ∷ 8 ∷ 9 ∷ 10
 abbrev pub term-kinds : List ℕ
 term-kinds = 13 ∷ 14 ∷ 15 ∷ 16 ∷ 17 ∷ 18 ∷ 19 ∷ 20 ∷ 21 ∷ 22 ∷ 23 ∷ 24 ∷ []
 
-abbrev pub argument-kinds : List ℕ
-argument-kinds = 25 ∷ 26 ∷ []
-
 abbrev pub binder-kinds : List ℕ
 binder-kinds = 25 ∷ 28 ∷ []
 
@@ -191,21 +188,6 @@ module _ (t : ℕ → Tree) (n : NodeNo) (P : Node → Term → Type 0)
       (λ l r. other _ refl) (λ l r. other _ refl) (λ b. other _ refl) (λ b w. other _ refl) (λ b w. other _ refl) (λ l r w. other _ refl)
       (λ s y b. other _ refl) (λ o l r. other _ refl) (λ a l. other _ refl) (λ b l. other _ refl) (λ s. other _ refl) (λ y. other _ refl)
       (λ y. other _ refl) var wildcard literal scope context param binder-ref array arith sum count agg (other _ refl) (λ f x l. other _ refl)
-      (λ x l. other _ refl) (λ s y l. other _ refl)
-
--- a list of arguments
-module _ (t : ℕ → Tree) (n : NodeNo) (P : Node → Arguments → Type 0)
-    (end : P node.ListEnd (no-argument n))
-    (arg : (f : ℕ) (x : NodeNo) (l : NodeNo) → P (node.ArgumentCell f x l) (argument n f (as-term (t (x .0))) (as-arguments (t (l .0)))))
-    (other : (m : Node) → hasKey argument-kinds (tagOf the-type m) ≡ false → P m (no-argument (node-no 0))) where
-  pub arguments-cases : (m : Node) → P m (as-arguments (planted t n m))
-  unfolding planted as-arguments
-  arguments-cases =
-      by-kind (λ (m : Node). P m (as-arguments (planted t n m)))
-      (λ l r. other _ refl) (λ l r. other _ refl) (λ b. other _ refl) (λ b w. other _ refl) (λ b w. other _ refl) (λ l r w. other _ refl)
-      (λ s y b. other _ refl) (λ o l r. other _ refl) (λ a l. other _ refl) (λ b l. other _ refl) (λ s. other _ refl) (λ y. other _ refl)
-      (λ y. other _ refl) (λ x. other _ refl) (other _ refl) (λ y. other _ refl) (λ y. other _ refl) (λ y. other _ refl) (λ k. other _ refl)
-      (λ k. other _ refl) (λ l. other _ refl) (λ o l r. other _ refl) (λ s l b. other _ refl) (λ l b. other _ refl) (λ y. other _ refl) end arg
       (λ x l. other _ refl) (λ s y l. other _ refl)
 
 -- a list of binders

@@ -17,7 +17,7 @@ use Rattle.trees.specs.Trees.{tree-of, condition-of, in-terms}
 use Rattle.trees.proofs.Arms.{Arm}
 use Rattle.trees.proofs.Sorts.{at-term, at-arguments, at-items}
 use Rattle.trees.proofs.Shapes as shape
-use Rattle.trees.proofs.Shapes.{Two, One, Body, Base, Plain, Terms}
+use Rattle.trees.proofs.Shapes.{Two, One, Body, Base, Unbound, Terms}
 
 -- ---- conditions
 
@@ -58,11 +58,11 @@ unfolding planted as-condition
 base-law j e r (shape.body s) a = body-law j e s a
 base-law {f = f} j e r shape.refine a = ap (λ (t : Tree). f (as-condition t)) (a .tree) ∙ r _ _ _
 
-pub plain-law : {A : Type 0} {f : Condition → A} → PassesOne f → ((n : NodeNo) (b : Condition) (l : Arguments) → f (Refine n b l) ≡ f b)
-    → {bytes starts : List ℕ} {i : ℕ} {b : NodeNo} {m : Node} → Plain b m → Arm bytes starts i m → f (condition-of bytes i) ≡ f (condition-of bytes (b .0))
+pub unbound-law : {A : Type 0} {f : Condition → A} → PassesOne f → ((n : NodeNo) (b : Condition) (l : Arguments) → f (Refine n b l) ≡ f b)
+    → {bytes starts : List ℕ} {i : ℕ} {b : NodeNo} {m : Node} → Unbound b m → Arm bytes starts i m → f (condition-of bytes i) ≡ f (condition-of bytes (b .0))
 unfolding planted as-condition
-plain-law j r (Plain.one s) a = one-law j s a
-plain-law {f = f} j r Plain.refine a = ap (λ (t : Tree). f (as-condition t)) (a .tree) ∙ r _ _ _
+unbound-law j r (Unbound.one s) a = one-law j s a
+unbound-law {f = f} j r Unbound.refine a = ap (λ (t : Tree). f (as-condition t)) (a .tree) ∙ r _ _ _
 
 -- ---- terms
 

@@ -32,9 +32,9 @@ pub data Base (b : NodeNo) : Node → Type 0 where
   refine : {l : NodeNo} → Base b (node.Refine b l)
 
 -- one condition, and nothing bound
-pub data Plain (b : NodeNo) : Node → Type 0 where
-  one : {m : Node} → One b m → Plain b m
-  refine : {l : NodeNo} → Plain b (node.Refine b l)
+pub data Unbound (b : NodeNo) : Node → Type 0 where
+  one : {m : Node} → One b m → Unbound b m
+  refine : {l : NodeNo} → Unbound b (node.Refine b l)
 
 -- the condition that a time operator restricts by
 pub data Anchor (b : NodeNo) : Node → Type 0 where
@@ -87,14 +87,9 @@ module _ {bytes starts : List ℕ} {i : ℕ} where
   of-base (body s) a = of-body s a
   of-base refine a = a .children .0
 
-  pub of-plain : {b : NodeNo} {m : Node} → Plain b m → Arm bytes starts i m → Child bytes starts i condition (b .0)
-  of-plain (one s) a = of-one s a
-  of-plain refine a = a .children .0
-
-  pub of-anchor : {b : NodeNo} {m : Node} → Anchor b m → Arm bytes starts i m → Child bytes starts i condition (b .0)
-  of-anchor formerly a = a .children .0
-  of-anchor previous a = a .children .0
-  of-anchor since a = a .children .1 .0
+  pub of-unbound : {b : NodeNo} {m : Node} → Unbound b m → Arm bytes starts i m → Child bytes starts i condition (b .0)
+  of-unbound (one s) a = of-one s a
+  of-unbound refine a = a .children .0
 
   pub of-aggregate : {l b : NodeNo} {m : Node} → Aggregate l b m → Arm bytes starts i m → Child bytes starts i binders (l .0) × Child bytes starts i condition (b .0)
   of-aggregate sum a = (a .children .0, a .children .1 .0)

@@ -22,17 +22,16 @@ use Rattle.paper.specs.declared.Node.the-variants as node
 use Rattle.paper.specs.Sets.{Set, none, only, _∪_, _∖_}
 use Rattle.paper.specs.Record.{pick, node-no}
 use Rattle.paper.specs.Shape.{names-in}
-use Rattle.paper.specs.Tree.{Term, Tree, as-condition, as-term, as-arguments, planted}
+use Rattle.paper.specs.Tree.{Term, Tree, as-condition, as-term, planted}
 use Rattle.paper.specs.Tree.Term.{Var, Wildcard, Value, Sigil, Array, Arith, Sum, Count, AggregateCall}
-use Rattle.paper.specs.FreeAndRestricted.{named, has-wildcard, items-wildcard, bare, about, ties, equality, tied, tied-name, direct, restricted}
+use Rattle.paper.specs.FreeAndRestricted.{named, has-wildcard, items-wildcard, bare, ties, equality, tied, tied-name, direct, restricted}
 use Rattle.paper.proofs.Walks.{All}
 use Rattle.record.specs.Stored.{contents, Has}
 use Rattle.trees.specs.Trees.{tree-of, condition-of, term-of, arguments-of, in-terms}
 use Rattle.trees.proofs.Arms.{Arm, arm}
 use Rattle.trees.proofs.Shapes.{Anchor, formerly, previous, since}
-use Rattle.trees.proofs.ByKind.{term-kinds, no-other, condition-cases, term-cases, arguments-cases, in-terms-cases}
+use Rattle.trees.proofs.ByKind.{term-kinds, no-other, condition-cases, term-cases, in-terms-cases}
 use Rattle.trees.proofs.Joins.{JoinsTerms}
-use Rattle.paper.proofs.SetLaws.{none-joins}
 use Rattle.trees.specs.Terms.{arguments-wildcard, wildcard-in}
 
 -- ---- wildcards
@@ -54,14 +53,6 @@ no-name e = let z : _≡_ {A = ℕ} 0 1 = cc in omega arith
 
 same-name : {x y : NameNo} → subject.Name x ≡ subject.Name y → x ≡ y
 same-name e = cc
-
-pub about-name : {s : Subject} {x : NameNo} → s ≡ subject.Name x → about s ≡ only (x .0)
-unfolding about
-about-name e = ap about e
-
-pub about-none : {s : Subject} {a : Set} → s ≡ subject.NoName → about s ∪ a ≡ a
-unfolding about
-about-none {a = a} e = ap (λ (z : Subject). about z ∪ a) e ∙ none-joins a
 
 module _ {bytes starts : List ℕ} {i : ℕ} where
   pub wildcard-here : Arm bytes starts i node.Wildcard → wildcard-in (tree-of bytes i) ≡ true
@@ -96,14 +87,6 @@ module _ {bytes starts : List ℕ} {i : ℕ} where
   ties-arith a = in-term ties a ∙ sym (ap (λ (t : Tree). not (wildcard-in t)) (a .tree))
 
   -- ---- restricted names
-
-  pub in-arguments : {m : Node} → Arm bytes starts i m → direct (arguments-of bytes i) ≡ direct (as-arguments (planted (tree-of bytes) (node-no i) m))
-  in-arguments a = ap (λ (t : Tree). direct (as-arguments t)) (a .tree)
-
-  pub direct-cell : {k : ℕ} {x l : NodeNo} → Arm bytes starts i (node.ArgumentCell k x l)
-      → direct (arguments-of bytes i) ≡ about (bare (term-of bytes (x .0))) ∪ direct (arguments-of bytes (l .0))
-  unfolding planted as-arguments direct
-  direct-cell a = in-arguments a
 
   pub in-restricted : {m : Node} → Arm bytes starts i m → restricted (condition-of bytes i) ≡ restricted (as-condition (planted (tree-of bytes) (node-no i) m))
   in-restricted a = ap (λ (t : Tree). restricted (as-condition t)) (a .tree)
@@ -278,16 +261,6 @@ ties-value t n =
     (λ x h. absurd (miss ties-value-kinds 13 tt h)) (λ h. absurd (miss ties-value-kinds 14 tt h)) (λ y h. refl) (λ y h. refl) (λ y h. refl)
     (λ k h. refl) (λ k h. refl) (λ l h. refl) (λ o l r h. absurd (miss ties-value-kinds 21 tt h)) (λ s l b h. refl) (λ l b h. refl) (λ y h. refl)
     (λ m e h. refl)
-
--- no argument cell
-abbrev no-arguments-kinds : List ℕ
-no-arguments-kinds = 0 ∷ 1 ∷ 2 ∷ 3 ∷ 4 ∷ 5 ∷ 6 ∷ 7 ∷ 8 ∷ 9 ∷ 10 ∷ 11 ∷ 12 ∷ 13 ∷ 14 ∷ 15 ∷ 16 ∷ 17 ∷ 18 ∷ 19 ∷ 20 ∷ 21 ∷ 22 ∷ 23 ∷ 24 ∷ 25 ∷ 27 ∷ 28 ∷ []
-
-pub no-arguments : (t : ℕ → Tree) (n : NodeNo) (m : Node) → OneOf no-arguments-kinds (tagOf the-type m) → direct (as-arguments (planted t n m)) ≡ none
-unfolding direct
-no-arguments t n =
-    arguments-cases t n (λ m z. OneOf no-arguments-kinds (tagOf the-type m) → direct z ≡ none)
-    (λ h. refl) (λ f x l h. absurd (miss no-arguments-kinds 26 tt h)) (λ m e h. refl)
 
 -- Or, Not, Call, SigilRef, and no condition
 abbrev pub restricts-nothing-kinds : List ℕ

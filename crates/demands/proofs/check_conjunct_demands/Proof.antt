@@ -9,7 +9,6 @@ use Rattle.facts.proofs.NotedLaws.{body-row, term-row}
 use Rattle.writes.proofs.WriteLaws.{wrote-none, wrote-is, room-is}
 use Rattle.demands.proofs.DemandLaws.{owed-comparison, owed-not, owed-since, owed-none}
 use Rattle.demands.proofs.check_conjunct_demands.Statement.{statement}
-use Rattle.demands.proofs.check_conjunct_demands.Lts as lts
 use Rattle.demands.proofs.check_conjunct_demands.Tie as tie
 
 here : (c : tie.Start) {m : Node} → c .args .node ≡ m → Arm (now (c .args .bytes)) (now (c .args .starts)) (c .args .i .0) m

@@ -1,5 +1,4 @@
 -- `body_has_sigil` reads whether a condition holds a sigil from its row.
-use borrow.Author.Needs.{needs}
 use native.Mathlib.Omega.{arith}
 use Rattle.facts.proofs.NotedLaws.{noted-body}
 use Rattle.facts.proofs.body_has_sigil.Statement.{statement}

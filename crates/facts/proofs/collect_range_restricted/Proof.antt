@@ -1,5 +1,4 @@
 -- `collect_range_restricted` reads the restricted names of a condition from its row.
-use borrow.Author.Needs.{needs}
 use native.Mathlib.Omega.{arith}
 use Rattle.facts.proofs.NotedLaws.{noted-body}
 use Rattle.facts.proofs.collect_range_restricted.Statement.{statement}

@@ -1,5 +1,4 @@
 -- `collect_term_var` reads the free names of terms from its row.
-use borrow.Author.Needs.{needs}
 use native.Mathlib.Omega.{arith}
 use Rattle.facts.proofs.NotedLaws.{noted-term}
 use Rattle.facts.proofs.collect_term_var.Statement.{statement}

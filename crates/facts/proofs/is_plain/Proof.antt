@@ -1,6 +1,5 @@
 -- `is_plain` reads from a node's row whether it is plain.
-use mathlib.Core.Path.{_≡_, ap, _∙_}
-use mathlib.Core.Bool.{Bool}
+use mathlib.Core.Path.{ap, _∙_}
 use native.Mathlib.Omega.{arith}
 use Rattle.facts.specs.declared.Facts.{Facts}
 use Rattle.facts.proofs.is_plain.Statement.{statement}

@@ -4,7 +4,6 @@ use mathlib.Core.Path.{_≡_, refl, _∙_, subst}
 use native.Mathlib.Omega.{arith}
 use lib.ListN.{length}
 use borrow.Author.Needs.{needs}
-use Rattle.record.proofs.StoredLaws.{few}
 use Rattle.facts.specs.Noted.{Noted}
 use Rattle.facts.proofs.NotedLaws.{noted-none, noted-more}
 use Rattle.facts.proofs.note.Statement.{statement}

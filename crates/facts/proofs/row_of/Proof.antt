@@ -1,8 +1,7 @@
 -- `row_of` makes the row that holds the facts.
-use mathlib.Core.Path.{_≡_, ap₂, _∙_}
+use mathlib.Core.Path.{ap₂}
 use mathlib.Core.Bool.{Bool}
 use borrow.Author.Needs.{needs}
-use Rattle.facts.specs.declared.Facts.{Facts}
 use Rattle.facts.specs.Noted.{facts-of}
 use Rattle.facts.proofs.row_of.Statement.{statement}
 use Rattle.facts.proofs.row_of.Tie as tie

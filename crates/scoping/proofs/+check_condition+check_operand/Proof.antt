@@ -10,11 +10,11 @@ use Rattle.paper.specs.declared.Node.the-variants as node
 use Rattle.paper.specs.Sets.{_∪_}
 use Rattle.trees.proofs.Arms.{Arm, arm}
 use Rattle.facts.proofs.NotedLaws.{under, plain-body}
-use Rattle.trees.proofs.Shapes.{Two, Plain, Aggregate, not, sum, count, of-two, of-plain, of-aggregate, met₁, met₂}
+use Rattle.trees.proofs.Shapes.{Two, Unbound, Aggregate, not, sum, count, of-two, of-unbound, of-aggregate, met₁, met₂}
 use Rattle.trees.proofs.Shapes.Two.{and as two-and, or, since}
 use Rattle.trees.proofs.Shapes.One.{formerly, previous}
-use Rattle.trees.proofs.Shapes.Plain.{one, refine}
-use Rattle.trees.proofs.Joins.{two-law, plain-law}
+use Rattle.trees.proofs.Shapes.Unbound.{one, refine}
+use Rattle.trees.proofs.Joins.{two-law, unbound-law}
 use Rattle.trees.proofs.Sorts.{a-body}
 use Rattle.free.proofs.FreeLaws.{slot-tabled}
 use Rattle.writes.proofs.WriteLaws.{wrote-none, wrote-then, wrote-is, room-is, room-first, room-rest}
@@ -109,12 +109,12 @@ operand-arm : (t : ℕ) (c : check-operand-lts.After-node-at (operand-claims t) 
     → Arm (now (c .before .before .before .args .bytes)) (now (c .before .before .before .args .starts)) (c .before .before .before .args .i .0) m
 operand-arm t c p = arm _ _ _ _ _ (c .before .before .before .pre .1 .0 .0) (c .node-at .ensures) p
 
-passes : (t : ℕ) (c : check-condition-lts.At-match-came (condition-claims t) (condition-at t) check-condition.Post) → Plain (c .match .b) (c .before .node-at .result)
+passes : (t : ℕ) (c : check-condition-lts.At-match-came (condition-claims t) (condition-at t) check-condition.Post) → Unbound (c .match .b) (c .before .node-at .result)
 passes t c =
-    ⊎-elim (λ w. met₁ Plain node.Not (λ b. one not) (w .1 .given .1) (w .3))
-    (⊎-elim (λ w. met₁ Plain (λ b. node.Formerly b (w .1 .given .0 .1 .0)) (λ b. one formerly) (w .1 .given .1) (w .3))
-    (⊎-elim (λ w. met₁ Plain (λ b. node.Previous b (w .1 .given .0 .1 .0)) (λ b. one previous) (w .1 .given .1) (w .3))
-    (λ w. met₁ Plain (λ b. node.Refine b (w .1 .given .0 .1 .0)) (λ b. refine) (w .1 .given .1) (w .3))))
+    ⊎-elim (λ w. met₁ Unbound node.Not (λ b. one not) (w .1 .given .1) (w .3))
+    (⊎-elim (λ w. met₁ Unbound (λ b. node.Formerly b (w .1 .given .0 .1 .0)) (λ b. one formerly) (w .1 .given .1) (w .3))
+    (⊎-elim (λ w. met₁ Unbound (λ b. node.Previous b (w .1 .given .0 .1 .0)) (λ b. one previous) (w .1 .given .1) (w .3))
+    (λ w. met₁ Unbound (λ b. node.Refine b (w .1 .given .0 .1 .0)) (λ b. refine) (w .1 .given .1) (w .3))))
     (c .match .came)
 
 joins : (t : ℕ) (c : check-condition-lts.At-match-came-2 (condition-claims t) (condition-at t) check-condition.Post) → Two (c .match .l) (c .match .r) (c .before .node-at .result)
@@ -156,7 +156,7 @@ condition-returns-5 t c =
 
 condition-returns-6 : (t : ℕ) → check-condition-lts.Need-returns-7 (condition-claims t) (condition-at t) check-condition.Post
 condition-returns-6 t c =
-    wrote-is (plain-law (scoped-one _ _) (scoped-refine _ _) (passes t (c .before .before .before .before)) (condition-arm t (c .before .before .before .before .before)
+    wrote-is (unbound-law (scoped-one _ _) (scoped-refine _ _) (passes t (c .before .before .before .before)) (condition-arm t (c .before .before .before .before .before)
     refl)) (c .before .before .check-condition2 .ensures)
 
 condition-returns-7 : (t : ℕ) → check-condition-lts.Need-returns-8 (condition-claims t) (condition-at t) check-condition.Post
@@ -257,8 +257,8 @@ pub +check-condition+check-operand-spec : {M : Type 1} → statement M
           (a .tabled),
       room-is (scoped-tp _ _ a) (c .before .before .before .before .before .before .before .before .before .pre .1 .1),
     ))
-    (λ c κs. let a = condition-arm t (c .before .before) refl in let d = under (of-plain (passes t (c .before)) a) (c .before .before .before .before .before .before .before .pre .0) (c .before .before .before .before .before .before .before .pre .1 .0 .1) in
-    (d .0, (d .1, room-is (plain-law (scoped-one _ _) (scoped-refine _ _) (passes t (c .before)) a) (c .before .before .before .before .before .before .before .pre .1 .1))))
+    (λ c κs. let a = condition-arm t (c .before .before) refl in let d = under (of-unbound (passes t (c .before)) a) (c .before .before .before .before .before .before .before .pre .0) (c .before .before .before .before .before .before .before .pre .1 .0 .1) in
+    (d .0, (d .1, room-is (unbound-law (scoped-one _ _) (scoped-refine _ _) (passes t (c .before)) a) (c .before .before .before .before .before .before .before .pre .1 .1))))
     (λ c κs. let a = condition-arm t (c .before .before) refl in let d = under (of-two (joins t (c .before)) a .0) (c .before .before .before .before .before .before .before .pre .0) (c .before .before .before .before .before .before .before .pre .1 .0 .1) in
     (d .0, (d .1, room-first _ _ (room-is (two-law (scoped-two _ _) (joins t (c .before)) a) (c .before .before .before .before .before .before .before .pre .1 .1)))))
     (λ c κs. let a = condition-arm t (c .before .before .before .before .before .before) refl in let d = under (of-two (joins t (c .before .before .before .before .before)) a .1) (c .before .before .before .before .before .before .before .before .before .before .before .pre .0) (c .before .before .before .before .before .before .before .before .before .before .before .pre .1 .0 .1) in (
