@@ -1,6 +1,4 @@
 // The entries of an aggregate, before its body's.
-use facts::collect_free;
-use facts::collect_range_restricted;
 use free::binder_names;
 use free::slot_name;
 use names::Names;
@@ -10,6 +8,8 @@ use paper::NodeNo;
 use paper::Slot;
 use paper::Subject;
 use record::access::node_at;
+use rows::read::collect_free;
+use rows::read::collect_range_restricted;
 use sigils::is_sigil;
 use writes::emit;
 use writes::put;
@@ -21,7 +21,7 @@ ghost use Rattle.paper.specs.Places.{at-cells, gather, findings};
 ghost use Rattle.paper.specs.Scoping.{binder-sigil, cell-of, cells};
 ghost use Rattle.names.specs.Words.{mem};
 ghost use Rattle.record.specs.Stored.{contents, Has};
-ghost use Rattle.facts.specs.Noted.{AllNoted};
+ghost use Rattle.known.specs.Rows.{Noted};
 ghost use Rattle.trees.specs.Trees.{tree-of, condition-of, term-of, binders-of, is-condition};
 ghost use Rattle.writes.specs.Written.{Room, Wrote};
 ghost use Rattle.aggregates.specs.Aggregates.{skips, five, five-of};
@@ -109,7 +109,7 @@ fn check_aggregation(
     out: &mut [u32],
     at: usize,
 ) -> usize
-    requires { ⌜ Has (now bytes) (now starts) (binders .0) × (body .0 < length (contents (now bytes) .nodes)) × AllNoted (now bytes) (now rows) × (is-condition (tree-of (now bytes) (body .0)) ≡ true) ⌝ }
+    requires { ⌜ Has (now bytes) (now starts) (binders .0) × (body .0 < length (contents (now bytes) .nodes)) × Noted (now bytes) (now rows) × (is-condition (tree-of (now bytes) (body .0)) ≡ true) ⌝ }
     requires { ⌜ Room (gather findings (five (mem words) n (mem summed) (binders-of (now bytes) (binders .0)) (condition-of (now bytes) (body .0)) (mem scope))) at ⌝ }
     ensures { λ r. ⌜ Wrote (gather findings (five (mem words) n (mem summed) (binders-of (now (bytes .entry)) (binders .0)) (condition-of (now (bytes .entry)) (body .0)) (mem scope))) at r (now (out .entry)) (now (out .exit)) ⌝ }
 {
@@ -139,7 +139,7 @@ pub fn check_agg_expr(
     out: &mut [u32],
     at: usize,
 ) -> usize
-    requires { ⌜ Has (now bytes) (now starts) (i .0) × AllNoted (now bytes) (now rows) ⌝ }
+    requires { ⌜ Has (now bytes) (now starts) (i .0) × Noted (now bytes) (now rows) ⌝ }
     requires { ⌜ Room (gather findings (five-of (mem words) (term-of (now bytes) (i .0)) (mem scope))) at ⌝ }
     ensures { λ r. ⌜ Wrote (gather findings (five-of (mem words) (term-of (now (bytes .entry)) (i .0)) (mem scope))) at r (now (out .entry)) (now (out .exit)) ⌝ }
 {

@@ -1,6 +1,6 @@
 // Whether a condition is closed: 28.
-use facts::collect_free;
 use paper::NodeNo;
+use rows::read::collect_free;
 use writes::emit;
 ghost use mathlib.Core.Path.{_≡_};
 ghost use mathlib.Core.Bool.{true};
@@ -9,7 +9,7 @@ ghost use lib.ListN.{length};
 ghost use Rattle.paper.specs.FreeAndRestricted.{free};
 ghost use Rattle.paper.specs.Places.{for-names, findings};
 ghost use Rattle.record.specs.Stored.{contents};
-ghost use Rattle.facts.specs.Noted.{AllNoted};
+ghost use Rattle.known.specs.Rows.{Noted};
 ghost use Rattle.trees.specs.Trees.{tree-of, condition-of, is-condition};
 ghost use Rattle.writes.specs.Written.{Room, Wrote};
 
@@ -21,7 +21,7 @@ pub fn check_leaf_closed(
     out: &mut [u32],
     at: usize,
 ) -> usize
-    requires { ⌜ (i .0 < length (contents (now bytes) .nodes)) × AllNoted (now bytes) (now rows) × (is-condition (tree-of (now bytes) (i .0)) ≡ true) ⌝ }
+    requires { ⌜ (i .0 < length (contents (now bytes) .nodes)) × Noted (now bytes) (now rows) × (is-condition (tree-of (now bytes) (i .0)) ≡ true) ⌝ }
     requires { ⌜ Room (findings (for-names 28 i (free (condition-of (now bytes) (i .0))))) at ⌝ }
     ensures { λ r. ⌜ Wrote (findings (for-names 28 i (free (condition-of (now (bytes .entry)) (i .0))))) at r (now (out .entry)) (now (out .exit)) ⌝ }
 {

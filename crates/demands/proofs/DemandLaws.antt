@@ -20,17 +20,15 @@ use Rattle.paper.specs.Sets.{Set, none, _∪_, _∖_}
 use Rattle.paper.specs.TurnedAway.{Contents}
 use Rattle.paper.specs.Tree.{Condition, Term, Tree, as-condition, as-term, planted, root}
 use Rattle.paper.specs.Tree.{Condition as cond}
-use Rattle.facts.specs.Plain.{plain-arguments, plain}
-use Rattle.facts.proofs.NotedLaws.{both-true}
+use Rattle.known.specs.Plain.{plain-arguments, plain}
+use Rattle.known.proofs.RowLaws.{both-true}
 use Rattle.paper.specs.FreeAndRestricted.{named, binder-names, free, term-free, arguments-free, items-free, restricted, tied, holds-sigil}
 use Rattle.paper.specs.Places.{Spot, condition, operand, Place, asked-at, for-names, gather, findings, found}
 use Rattle.paper.specs.Demands.{comparison-broken, demand-below, demand-broken, demands-part}
 use Rattle.paper.proofs.Walks.{found-at}
 use Rattle.paper.proofs.Exact.{extent-pos, demand-shrinks}
 use Rattle.trees.specs.Trees.{tree-of, condition-of, term-of, binders-of}
-use Rattle.trees.specs.Terms.{free-in}
 use Rattle.trees.proofs.Arms.{Child, Arm}
-use Rattle.trees.proofs.Sorts.{at-term}
 use Rattle.trees.proofs.Shapes as shape
 use Rattle.trees.proofs.Shapes.{Two, Base, Aggregate, sum, count}
 use Rattle.trees.proofs.ByKind.{condition-kinds, no-other, condition-cases, term-cases}
@@ -207,18 +205,15 @@ module _ (n : NodeNo) (left right ties : Set) where
   unfolding owed-compared
   compared-neither d e = rw (e, d)
 
-free-side : {bytes starts : List ℕ} {i k : ℕ} → Child bytes starts i term k → free-in (tree-of bytes k) ≡ term-free (term-of bytes k)
-free-side c = at-term term-free arguments-free items-free none _ (c .fits)
-
 module _ (ties : Set) {bytes starts : List ℕ} {i : ℕ} where
   in-owed : {m : Node} → Arm bytes starts i m → owed (condition-of bytes i) ties ≡ owed (as-condition (planted (tree-of bytes) (node-no i) m)) ties
   in-owed a = ap (λ (t : Tree). owed (as-condition t) ties) (a .tree)
 
   pub owed-comparison : {side : Tied} {left right : Set} {o : ℕ} {l r : NodeNo} → Arm bytes starts i (node.Comparison o l r)
-      → side ≡ tied o (term-of bytes (l .0)) (term-of bytes (r .0)) → left ≡ free-in (tree-of bytes (l .0)) → right ≡ free-in (tree-of bytes (r .0))
+      → side ≡ tied o (term-of bytes (l .0)) (term-of bytes (r .0)) → left ≡ term-free (term-of bytes (l .0)) → right ≡ term-free (term-of bytes (r .0))
       → owed (condition-of bytes i) ties ≡ owed-compared (node-no i) side left right ties
   unfolding planted as-condition owed demand-broken
-  owed-comparison a s p q = in-owed a ∙ compared _ _ _ _ _ s (p ∙ free-side (a .children .0)) (q ∙ free-side (a .children .1 .0))
+  owed-comparison a s p q = in-owed a ∙ compared _ _ _ _ _ s p q
 
   pub owed-not : {needs : Set} {b : NodeNo} → Arm bytes starts i (node.Not b) → needs ≡ free (condition-of bytes (b .0))
       → owed (condition-of bytes i) ties ≡ findings (for-names 31 (node-no i) (needs ∖ ties))

@@ -1,8 +1,4 @@
 // Demands: 30 to 32.
-use facts::collect_free;
-use facts::collect_range_restricted;
-use facts::collect_term_var;
-use facts::is_plain;
 use free::binder_names;
 use free::slot_name;
 use names::Names;
@@ -10,6 +6,10 @@ use paper::Node;
 use paper::NodeNo;
 use paper::Tied;
 use record::access::node_at;
+use rows::read::collect_free;
+use rows::read::collect_range_restricted;
+use rows::read::collect_term_var;
+use rows::read::is_plain;
 use vars::eq_restricted_var;
 use writes::emit;
 ghost use mathlib.Core.Path.{_≡_};
@@ -22,8 +22,8 @@ ghost use Rattle.paper.specs.Sets.{_∖_};
 ghost use Rattle.paper.specs.Places.{condition, operand, for-names, findings};
 ghost use Rattle.names.specs.Words.{mem};
 ghost use Rattle.record.specs.Stored.{contents, Has};
-ghost use Rattle.facts.specs.Noted.{AllNoted};
-ghost use Rattle.trees.specs.Trees.{condition-of, term-of};
+ghost use Rattle.known.specs.Rows.{Noted};
+ghost use Rattle.trees.specs.Trees.{tree-of, is-condition, condition-of, term-of};
 ghost use Rattle.writes.specs.Written.{Room, Wrote};
 ghost use Rattle.demands.specs.Demanded.{place-below, demanded, owed, owed-compared};
 
@@ -78,7 +78,7 @@ fn check_conjunct_demands(
     out: &mut [u32],
     at: usize,
 ) -> usize
-    requires { ⌜ Has (now bytes) (now starts) (i .0) × AllNoted (now bytes) (now rows) ⌝ }
+    requires { ⌜ Has (now bytes) (now starts) (i .0) × Noted (now bytes) (now rows) ⌝ }
     requires { ⌜ node ≡ getD (contents (now bytes) .nodes) (i .0) ListEnd ⌝ }
     requires { ⌜ Room (owed (condition-of (now bytes) (i .0)) (mem tied)) at ⌝ }
     ensures { λ r. ⌜ Wrote (owed (condition-of (now (bytes .entry)) (i .0)) (mem tied)) at r (now (out .entry)) (now (out .exit)) ⌝ }
@@ -116,7 +116,7 @@ fn check_own_demands(
     out: &mut [u32],
     at: usize,
 ) -> usize
-    requires { ⌜ Has (now bytes) (now starts) (i .0) × AllNoted (now bytes) (now rows) ⌝ }
+    requires { ⌜ Has (now bytes) (now starts) (i .0) × Noted (now bytes) (now rows) ⌝ }
     requires { ⌜ node ≡ getD (contents (now bytes) .nodes) (i .0) ListEnd ⌝ }
     requires { ⌜ Room (pick asked (owed (condition-of (now bytes) (i .0)) (mem tied)) []) at ⌝ }
     ensures { λ r. ⌜ Wrote (pick asked (owed (condition-of (now (bytes .entry)) (i .0)) (mem tied)) []) at r (now (out .entry)) (now (out .exit)) ⌝ }
@@ -136,7 +136,7 @@ fn tied_first(
     node: Node,
     tied: Names,
 ) -> Names
-    requires { ⌜ Has (now bytes) (now starts) (i .0) × AllNoted (now bytes) (now rows) ⌝ }
+    requires { ⌜ Has (now bytes) (now starts) (i .0) × Noted (now bytes) (now rows) ⌝ }
     requires { ⌜ node ≡ getD (contents (now bytes) .nodes) (i .0) ListEnd ⌝ }
     ensures { λ r. ⌜ mem r ≡ place-below 0 (condition-of (now (bytes .entry)) (i .0)) (mem tied) .names ⌝ }
 {
@@ -162,7 +162,7 @@ fn tied_second(
     node: Node,
     tied: Names,
 ) -> Names
-    requires { ⌜ Has (now bytes) (now starts) (i .0) × AllNoted (now bytes) (now rows) ⌝ }
+    requires { ⌜ Has (now bytes) (now starts) (i .0) × Noted (now bytes) (now rows) ⌝ }
     requires { ⌜ node ≡ getD (contents (now bytes) .nodes) (i .0) ListEnd ⌝ }
     ensures { λ r. ⌜ mem r ≡ place-below 1 (condition-of (now (bytes .entry)) (i .0)) (mem tied) .names ⌝ }
 {
@@ -198,7 +198,7 @@ pub fn check_chain(
     out: &mut [u32],
     at: usize,
 ) -> usize
-    requires { ⌜ Has (now bytes) (now starts) (i .0) × AllNoted (now bytes) (now rows) ⌝ }
+    requires { ⌜ Has (now bytes) (now starts) (i .0) × Noted (now bytes) (now rows) × (is-condition (tree-of (now bytes) (i .0)) ≡ true) ⌝ }
     requires { ⌜ Room (demanded asked (condition (condition-of (now bytes) (i .0))) (mem tied)) at ⌝ }
     ensures { λ r. ⌜ Wrote (demanded asked (condition (condition-of (now (bytes .entry)) (i .0))) (mem tied)) at r (now (out .entry)) (now (out .exit)) ⌝ }
 {
@@ -241,7 +241,7 @@ pub fn descend_nested_chains(
     out: &mut [u32],
     at: usize,
 ) -> usize
-    requires { ⌜ Has (now bytes) (now starts) (i .0) × AllNoted (now bytes) (now rows) ⌝ }
+    requires { ⌜ Has (now bytes) (now starts) (i .0) × Noted (now bytes) (now rows) ⌝ }
     requires { ⌜ Room (demanded true (operand (term-of (now bytes) (i .0))) (mem tied)) at ⌝ }
     ensures { λ r. ⌜ Wrote (demanded true (operand (term-of (now (bytes .entry)) (i .0))) (mem tied)) at r (now (out .entry)) (now (out .exit)) ⌝ }
 {

@@ -1,10 +1,10 @@
 // The three parts of the list, one after the other.
 use checks::closed::check_leaf_closed;
 use demands::check_chain;
-use facts::body_has_sigil;
 use facts::note;
 use names::Names;
 use paper::NodeNo;
+use rows::read::body_has_sigil;
 use scoping::check_condition;
 ghost use mathlib.Core.Path.{_≡_};
 ghost use mathlib.Core.Bool.{true};
@@ -14,7 +14,7 @@ ghost use Rattle.names.specs.Words.{mem};
 ghost use Rattle.paper.specs.FreeAndRestricted.{free};
 ghost use Rattle.paper.specs.Places.{condition, for-names, findings};
 ghost use Rattle.record.specs.Stored.{Has};
-ghost use Rattle.facts.specs.Noted.{AllNoted};
+ghost use Rattle.known.specs.Rows.{Noted};
 ghost use Rattle.scoping.specs.Scoped.{scoped};
 ghost use Rattle.trees.specs.Trees.{tree-of, condition-of, is-condition};
 ghost use Rattle.writes.specs.Written.{Room, Wrote};
@@ -29,7 +29,7 @@ pub fn check_demands(
     out: &mut [u32],
     at: usize,
 ) -> usize
-    requires { ⌜ Has (now bytes) (now starts) (i .0) × AllNoted (now bytes) (now rows) × (is-condition (tree-of (now bytes) (i .0)) ≡ true) ⌝ }
+    requires { ⌜ Has (now bytes) (now starts) (i .0) × Noted (now bytes) (now rows) × (is-condition (tree-of (now bytes) (i .0)) ≡ true) ⌝ }
     requires { ⌜ Room (demands-of (condition-of (now bytes) (i .0))) at ⌝ }
     ensures { λ r. ⌜ Wrote (demands-of (condition-of (now (bytes .entry)) (i .0))) at r (now (out .entry)) (now (out .exit)) ⌝ }
 {
@@ -49,7 +49,7 @@ pub fn write_list(
     words: Names,
     out: &mut [u32],
 ) -> usize
-    requires { ⌜ Has (now bytes) (now starts) (i .0) × AllNoted (now bytes) (now rows) × (is-condition (tree-of (now bytes) (i .0)) ≡ true) ⌝ }
+    requires { ⌜ Has (now bytes) (now starts) (i .0) × Noted (now bytes) (now rows) × (is-condition (tree-of (now bytes) (i .0)) ≡ true) ⌝ }
     requires { ⌜ Room (listed (mem words) i (condition-of (now bytes) (i .0))) 0 ⌝ }
     ensures { λ r. ⌜ Wrote (listed (mem words) i (condition-of (now (bytes .entry)) (i .0))) 0 r (now (out .entry)) (now (out .exit)) ⌝ }
 {

@@ -2,7 +2,7 @@
 -- and the root's tree has every node exactly once. Assumes nothing.
 use mathlib.Core.Path.{_≡_, refl, sym, ap, _∙_, subst, fun-ext}
 use mathlib.Core.Bool.{Bool, true, false, _||_, true≢false}
-use mathlib.Core.List.{List, [], _∷_, _++_, map, map-append}
+use mathlib.Core.List.{List, [], _∷_, _++_, map, map-append, List·Memᴰ, List·Memᴰ·head, List·Memᴰ·tail}
 use Prim.Native.Nat.{ℕ, zero, suc, _+_, _-_, _<_, _≤_}
 use native.Mathlib.Omega.{arith}
 use native.Mathlib.Decide.{decLt}
@@ -41,6 +41,26 @@ named-in k (p ∷ ps) = pick (eqb k (p .1)) 1 0 + named-in k ps
 pub mentions : ℕ → List Node → ℕ
 mentions k [] = 0
 mentions k (m ∷ ms) = named-in k (references m) + mentions k ms
+
+-- what is named somewhere is referred to by a node
+named-some : (k : ℕ) (ps : List (Sort × ℕ)) → 0 < named-in k ps → (s : Sort) × List·Memᴰ (s, k) ps
+named-some k [] h = absurd (omega arith)
+named-some k (p ∷ ps) h = go (λ z. named-some k ps z) (eqb k (p .1)) refl
+  where
+    go : (0 < named-in k ps → (s : Sort) × List·Memᴰ (s, k) ps) → (b : Bool) → eqb k (p .1) ≡ b → (s : Sort) × List·Memᴰ (s, k) (p ∷ ps)
+    go later true e = (p .0, List·Memᴰ·head (ap (λ (z : ℕ). (p .0, z)) (borrow.Author.Tests.eqb-true k (p .1) e)))
+    go later false e = let z = rw e at h in let r = later (omega arith) in (r .0, List·Memᴰ·tail (r .1))
+
+pub mentioned : (k : ℕ) (ms : List Node) → 0 < mentions k ms
+    → (p : ℕ) × (p < length ms) × ((s : Sort) × List·Memᴰ (s, k) (references (getD ms p ListEnd)))
+unfolding mentions
+mentioned k [] h = absurd (omega arith)
+mentioned k (m ∷ ms) h = go (λ z. mentioned k ms z) (decLt 0 (named-in k (references m)))
+  where
+    go : (0 < mentions k ms → (p : ℕ) × (p < length ms) × ((s : Sort) × List·Memᴰ (s, k) (references (getD ms p ListEnd)))) → Dec (0 < named-in k (references m))
+        → (p : ℕ) × (p < length (m ∷ ms)) × ((s : Sort) × List·Memᴰ (s, k) (references (getD (m ∷ ms) p ListEnd)))
+    go later (yes l) = (0, omega arith, named-some k (references m) l)
+    go later (no l) = let r = later (omega arith) in let z = r .1 in (suc (r .0), omega arith, r .2)
 
 mentions-more : (k : ℕ) (ms : List Node) (m : Node) → mentions k (ms ++ (m ∷ [])) ≡ mentions k ms + named-in k (references m)
 unfolding mentions

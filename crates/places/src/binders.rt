@@ -1,10 +1,10 @@
 // The binder of an exists, and the slot of a tp.
-use facts::body_has_sigil;
-use facts::collect_range_restricted;
 use free::slot_name;
 use names::Names;
 use paper::NodeNo;
 use paper::Slot;
+use rows::read::body_has_sigil;
+use rows::read::collect_range_restricted;
 use writes::emit;
 ghost use mathlib.Core.Path.{_≡_};
 ghost use mathlib.Core.Bool.{true};
@@ -16,7 +16,7 @@ ghost use Rattle.paper.specs.FreeAndRestricted.{named, restricted, holds-sigil}
 ghost use Rattle.paper.specs.Places.{for-names, findings};
 ghost use Rattle.names.specs.Words.{mem};
 ghost use Rattle.record.specs.Stored.{contents};
-ghost use Rattle.facts.specs.Noted.{AllNoted};
+ghost use Rattle.known.specs.Rows.{Noted};
 ghost use Rattle.trees.specs.Trees.{tree-of, condition-of, is-condition};
 ghost use Rattle.trees.specs.Terms.{Tabled};
 ghost use Rattle.writes.specs.Written.{Room, Wrote};
@@ -40,7 +40,7 @@ pub fn reject_reserved_binder(
 
 // The slot's name, unless the body restricts it or holds a sigil.
 fn unsafe_name(bytes: &[u8], rows: &[[u64; 5]], slot: Slot, body: NodeNo) -> Names
-    requires { ⌜ Tabled slot × (body .0 < length (contents (now bytes) .nodes)) × AllNoted (now bytes) (now rows) × (is-condition (tree-of (now bytes) (body .0)) ≡ true) ⌝ }
+    requires { ⌜ Tabled slot × (body .0 < length (contents (now bytes) .nodes)) × Noted (now bytes) (now rows) × (is-condition (tree-of (now bytes) (body .0)) ≡ true) ⌝ }
     ensures { λ r. ⌜ mem r ≡ pick (holds-sigil (condition-of (now (bytes .entry)) (body .0))) none (named slot ∖ restricted (condition-of (now (bytes .entry)) (body .0))) ⌝ }
 {
     if body_has_sigil(bytes, rows, body) {
@@ -61,7 +61,7 @@ pub fn check_exists_safe(
     out: &mut [u32],
     at: usize,
 ) -> usize
-    requires { ⌜ Tabled slot × (body .0 < length (contents (now bytes) .nodes)) × AllNoted (now bytes) (now rows) × (is-condition (tree-of (now bytes) (body .0)) ≡ true) ⌝ }
+    requires { ⌜ Tabled slot × (body .0 < length (contents (now bytes) .nodes)) × Noted (now bytes) (now rows) × (is-condition (tree-of (now bytes) (body .0)) ≡ true) ⌝ }
     requires { ⌜ Room (findings (for-names 23 n (pick (holds-sigil (condition-of (now bytes) (body .0))) none (named slot ∖ restricted (condition-of (now bytes) (body .0)))))) at ⌝ }
     ensures { λ r. ⌜ Wrote (findings (for-names 23 n (pick (holds-sigil (condition-of (now (bytes .entry)) (body .0))) none (named slot ∖ restricted (condition-of (now (bytes .entry)) (body .0)))))) at r (now (out .entry)) (now (out .exit)) ⌝ }
 {

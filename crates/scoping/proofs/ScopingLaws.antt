@@ -29,8 +29,8 @@ use Rattle.trees.proofs.Sorts.{at-arguments, at-items}
 use Rattle.trees.proofs.Shapes.{Aggregate, sum, count}
 use Rattle.trees.proofs.ByKind.{condition-cases, term-cases}
 use Rattle.trees.proofs.Joins.{JoinsTwo, PassesOne}
-use Rattle.facts.specs.Plain.{plain-argument, plain-arguments, plain}
-use Rattle.facts.proofs.NotedLaws.{both-true}
+use Rattle.known.specs.Plain.{plain-argument, plain-arguments, plain}
+use Rattle.known.proofs.RowLaws.{both-true}
 use Rattle.places.specs.Nested.{nested, nested-arguments, nested-items, nested-in}
 use Rattle.places.proofs.NestedLaws.{no-argument-nested, no-item-nested}
 use Rattle.aggregates.specs.Aggregates.{skips, five, five-of}

@@ -1,7 +1,6 @@
 // Scoping: 20 to 27.
 use aggregates::check_agg_expr;
 use aggregates::is_skipped;
-use facts::is_plain;
 use free::binder_names;
 use free::slot_name;
 use names::Names;
@@ -11,11 +10,14 @@ use places::binders::check_exists_safe;
 use places::binders::reject_reserved_binder;
 use places::nested::reject_nested_agg;
 use record::access::node_at;
+use rows::read::is_plain;
+ghost use mathlib.Core.Path.{_≡_};
+ghost use mathlib.Core.Bool.{true};
 ghost use Rattle.paper.specs.Places.{condition, operand};
 ghost use Rattle.names.specs.Words.{mem};
 ghost use Rattle.record.specs.Stored.{Has};
-ghost use Rattle.facts.specs.Noted.{AllNoted};
-ghost use Rattle.trees.specs.Trees.{condition-of, term-of};
+ghost use Rattle.known.specs.Rows.{Noted};
+ghost use Rattle.trees.specs.Trees.{tree-of, is-condition, condition-of, term-of};
 ghost use Rattle.writes.specs.Written.{Room, Wrote};
 ghost use Rattle.scoping.specs.Scoped.{scoped};
 
@@ -30,7 +32,7 @@ pub fn check_condition(
     out: &mut [u32],
     at: usize,
 ) -> usize
-    requires { ⌜ Has (now bytes) (now starts) (i .0) × AllNoted (now bytes) (now rows) ⌝ }
+    requires { ⌜ Has (now bytes) (now starts) (i .0) × Noted (now bytes) (now rows) × (is-condition (tree-of (now bytes) (i .0)) ≡ true) ⌝ }
     requires { ⌜ Room (scoped (mem words) (condition (condition-of (now bytes) (i .0))) (mem scope)) at ⌝ }
     ensures { λ r. ⌜ Wrote (scoped (mem words) (condition (condition-of (now (bytes .entry)) (i .0))) (mem scope)) at r (now (out .entry)) (now (out .exit)) ⌝ }
 {
@@ -74,7 +76,7 @@ pub fn check_operand(
     out: &mut [u32],
     at: usize,
 ) -> usize
-    requires { ⌜ Has (now bytes) (now starts) (i .0) × AllNoted (now bytes) (now rows) ⌝ }
+    requires { ⌜ Has (now bytes) (now starts) (i .0) × Noted (now bytes) (now rows) ⌝ }
     requires { ⌜ Room (scoped (mem words) (operand (term-of (now bytes) (i .0))) (mem scope)) at ⌝ }
     ensures { λ r. ⌜ Wrote (scoped (mem words) (operand (term-of (now (bytes .entry)) (i .0))) (mem scope)) at r (now (out .entry)) (now (out .exit)) ⌝ }
 {

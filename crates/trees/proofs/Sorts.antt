@@ -1,20 +1,20 @@
--- What is said of the terms of a tree (`in-terms`) is what is said of it at a place of its sort, and what fits a place is a condition or is none. Assumes nothing.
+-- What is said of the terms of a tree (`in-terms`) is what is said of it at a place of its sort, and what fits a place is a condition or a term. Assumes nothing.
 use mathlib.Core.Path.{_≡_, refl, sym, _∙_}
 use mathlib.Core.Bool.{true, false, true≢false}
 use Rattle.paper.specs.declared.NodeNo.{NodeNo}
-use Rattle.paper.specs.Record.{Sort, condition, term, arguments, items, binders}
+use Rattle.paper.specs.Record.{condition, term, arguments, items}
 use Rattle.paper.specs.Tree as tree
-use Rattle.paper.specs.Tree.{Condition, Term, Arguments, Items, Tree, a-condition, a-term, an-end, as-term, as-arguments, as-items}
+use Rattle.paper.specs.Tree.{Term, Arguments, Items, Tree, a-condition, an-end, as-term, as-arguments, as-items}
 use Rattle.paper.specs.Tree.Arguments.{no-argument}
 use Rattle.paper.specs.Tree.Items.{no-item}
 use Rattle.paper.proofs.Weights.{of-sort}
-use Rattle.trees.specs.Trees.{in-terms, is-condition}
+use Rattle.trees.specs.Trees.{in-terms, is-condition, is-term}
 
 module _ {A : Type 0} (f : Term → A) (g : Arguments → A) (h : Items → A) (v : A) where
   pub at-term : (t : Tree) → of-sort term t ≡ true → in-terms f g h v t ≡ f (as-term t)
   unfolding of-sort in-terms as-term
   at-term (a-condition c) e = absurd (true≢false (sym e))
-  at-term (a-term t) e = refl
+  at-term (tree.a-term t) e = refl
   at-term (tree.arguments l) e = absurd (true≢false (sym e))
   at-term (tree.items l) e = absurd (true≢false (sym e))
   at-term (tree.binders l) e = absurd (true≢false (sym e))
@@ -23,7 +23,7 @@ module _ {A : Type 0} (f : Term → A) (g : Arguments → A) (h : Items → A) (
   pub at-arguments : ((n : NodeNo) → g (no-argument n) ≡ v) → (t : Tree) → of-sort arguments t ≡ true → in-terms f g h v t ≡ g (as-arguments t)
   unfolding of-sort in-terms as-arguments
   at-arguments end (a-condition c) e = absurd (true≢false (sym e))
-  at-arguments end (a-term t) e = absurd (true≢false (sym e))
+  at-arguments end (tree.a-term t) e = absurd (true≢false (sym e))
   at-arguments end (tree.arguments l) e = refl
   at-arguments end (tree.items l) e = absurd (true≢false (sym e))
   at-arguments end (tree.binders l) e = absurd (true≢false (sym e))
@@ -32,29 +32,28 @@ module _ {A : Type 0} (f : Term → A) (g : Arguments → A) (h : Items → A) (
   pub at-items : ((n : NodeNo) → h (no-item n) ≡ v) → (t : Tree) → of-sort items t ≡ true → in-terms f g h v t ≡ h (as-items t)
   unfolding of-sort in-terms as-items
   at-items end (a-condition c) e = absurd (true≢false (sym e))
-  at-items end (a-term t) e = absurd (true≢false (sym e))
+  at-items end (tree.a-term t) e = absurd (true≢false (sym e))
   at-items end (tree.arguments l) e = absurd (true≢false (sym e))
   at-items end (tree.items l) e = refl
   at-items end (tree.binders l) e = absurd (true≢false (sym e))
   at-items end (an-end n) e = sym (end n)
 
--- ---- a condition, or none
+-- ---- a condition, or a term
 
 pub a-body : (t : Tree) → of-sort condition t ≡ true → is-condition t ≡ true
 unfolding of-sort is-condition
 a-body (a-condition c) e = refl
-a-body (a-term t) e = e
+a-body (tree.a-term t) e = e
 a-body (tree.arguments l) e = e
 a-body (tree.items l) e = e
 a-body (tree.binders l) e = e
 a-body (an-end n) e = e
 
--- of a sort that no condition has
-pub no-body : (s : Sort) → ((c : Condition) → of-sort s (a-condition c) ≡ false) → (t : Tree) → of-sort s t ≡ true → is-condition t ≡ false
-unfolding is-condition
-no-body s f (a-condition c) e = absurd (true≢false (sym e ∙ f c))
-no-body s f (a-term t) e = refl
-no-body s f (tree.arguments l) e = refl
-no-body s f (tree.items l) e = refl
-no-body s f (tree.binders l) e = refl
-no-body s f (an-end n) e = refl
+pub a-term : (t : Tree) → of-sort term t ≡ true → is-term t ≡ true
+unfolding of-sort is-term
+a-term (a-condition c) e = e
+a-term (tree.a-term t) e = refl
+a-term (tree.arguments l) e = e
+a-term (tree.items l) e = e
+a-term (tree.binders l) e = e
+a-term (an-end n) e = e

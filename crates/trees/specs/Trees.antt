@@ -36,3 +36,20 @@ is-condition (arguments l) = false
 is-condition (items l) = false
 is-condition (binders l) = false
 is-condition (an-end n) = false
+
+unfoldable pub is-term : Tree → Bool
+is-term (a-condition c) = false
+is-term (a-term t) = true
+is-term (arguments l) = false
+is-term (items l) = false
+is-term (binders l) = false
+is-term (an-end n) = false
+
+-- arguments, items or the end of a list
+unfoldable pub is-row : Tree → Bool
+is-row (a-condition c) = false
+is-row (a-term t) = false
+is-row (arguments l) = true
+is-row (items l) = true
+is-row (binders l) = false
+is-row (an-end n) = true

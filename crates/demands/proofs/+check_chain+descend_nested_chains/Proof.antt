@@ -11,7 +11,7 @@ use Rattle.paper.specs.Sets.{_∪_, _∖_}
 use Rattle.names.specs.Words.{mem}
 use Rattle.trees.specs.Trees.{condition-of}
 use Rattle.trees.proofs.Arms.{Arm, arm}
-use Rattle.facts.proofs.NotedLaws.{under, plain-body}
+use Rattle.known.proofs.RowLaws.{under, under-body}
 use Rattle.trees.proofs.Shapes as shape
 use Rattle.trees.proofs.Shapes.{Two, Base, Aggregate, sum, count, of-two, of-base, of-aggregate, met₁, met₂}
 use Rattle.writes.specs.Written.{Room}
@@ -26,7 +26,7 @@ use Rattle.demands.proofs.asked_first.Reads as asked-first-reads
 use Rattle.demands.proofs.check_own_demands.Reads as check-own-demands-reads
 use Rattle.demands.proofs.tied_first.Reads as tied-first-reads
 use Rattle.demands.proofs.tied_second.Reads as tied-second-reads
-use Rattle.facts.proofs.is_plain.Reads as is-plain-reads
+use Rattle.rows.proofs.read.is_plain.Reads as is-plain-reads
 use Rattle.free.proofs.binder_names.Reads as binder-names-reads
 use Rattle.names.proofs.minus.Reads as minus-reads
 use Rattle.record.proofs.access.node_at.Reads as node-at-reads
@@ -135,7 +135,7 @@ aggregate t c =
 
 plain-writes : (t : ℕ) → check-chain-lts.Need-returns (chain-claims t) (chain-at t) check-chain.Post
 plain-writes t c =
-    wrote-is (plain-demanded _ _ _ (plain-body _ (sym (c .before .is-plain .ensures) ∙ c .if1 .taken))) wrote-none
+    wrote-is (plain-demanded _ _ _ (sym (c .before .is-plain .ensures) ∙ c .if1 .taken)) wrote-none
 
 comparison-writes : (t : ℕ) → check-chain-lts.Need-returns-2 (chain-claims t) (chain-at t) check-chain.Post
 comparison-writes t c =
@@ -179,10 +179,10 @@ pub +check-chain+descend-nested-chains-spec : {M : Type 1} → statement M
 +check-chain+descend-nested-chains-spec =
     close μ-chain μ-operand
     (λ t. check-chain-lts.spec (chain-claims t) (chain-at t) check-chain.Post
-    (λ c κs. let s = c .before .before .pre .1 .0 in (s .0 .1, s .1))
+    (λ c κs. let s = c .before .before .pre .1 .0 in (s .0 .1, s .1, s .2))
     (plain-writes t)
     (λ c κs. c .before .before .before .before .pre .1 .0 .0)
-    (λ c κs. let s = c .before .before .before .before .before .before .pre .1 in (s .0, (c .before .node-at .ensures, room-own _ _ _ (s .1))))
+    (λ c κs. let s = c .before .before .before .before .before .before .pre .1 in ((s .0 .0, s .0 .1), (c .before .node-at .ensures, room-own _ _ _ (s .1))))
     (λ c. search needs)
     (λ c. search needs)
     (λ c. search needs)
@@ -194,13 +194,13 @@ pub +check-chain+descend-nested-chains-spec : {M : Type 1} → statement M
     (λ c. search needs)
     (λ c κs. let a = chain-arm t (c .before .before .before .before .before .before .before .before) (c .before .before .node9 .given .1) in let d = under (a .children .0) (c .before .before .before .before .before .before .before .before .before .before .before .before .before .pre .0) (c .before .before .before .before .before .before .before .before .before .before .before .before .before .pre .1 .0 .1) in (d .0, (d .1, room-first _ _ (room-is (below-comparison _ a) (chain-room t (c .before .before .before .before))))))
     (λ c κs. let a = chain-arm t (c .before .before .before .before .before .before .before .before .before .before .before .before) (c .before .before .before .before .before .before .node9 .given .1) in let d = under (a .children .1 .0) (c .before .before .before .before .before .before .before .before .before .before .before .before .before .before .before .before .before .pre .0) (c .before .before .before .before .before .before .before .before .before .before .before .before .before .before .before .before .before .pre .1 .0 .1) in let w = c .before .before .before .descend-nested-chains .ensures in (d .0, (d .1, room-rest _ _ w (omega (arith, w .total)) (room-is (below-comparison _ a) (chain-room t (c .before .before .before .before .before .before .before .before))))))
-    (λ c κs. (c .before .before .before .before .before .before .before .before .before .before .pre .1 .0, base-node t (c) ∙ c .before .before .before .before .before .node-at .ensures))
+    (λ c κs. ((c .before .before .before .before .before .before .before .before .before .before .pre .1 .0 .0, c .before .before .before .before .before .before .before .before .before .before .pre .1 .0 .1), base-node t (c) ∙ c .before .before .before .before .before .node-at .ensures))
     (λ c κs. (c .before .before .before .before .before .before .before .before .before .before .before .pre .1 .0 .0, base-node t (c .before) ∙ c .before .before .before .before .before .before .node-at .ensures))
-    (λ c κs. let a = chain-arm t (c .before .before .before .before .before .before .before .before) refl in let s = base t (c .before .before .before) in let d = under (of-base s a) (c .before .before .before .before .before .before .before .before .before .before .before .before .before .pre .0) (c .before .before .before .before .before .before .before .before .before .before .before .before .before .pre .1 .0 .1) in (d .0, (d .1, room-is (below-base _ s a (c .before .before .tied-first .ensures) (c .before .asked-first .ensures)) (chain-room t (c .before .before .before .before)))))
-    (λ c κs. (c .before .before .before .before .before .before .before .before .before .before .pre .1 .0, two-node t (c) ∙ c .before .before .before .before .before .node-at .ensures))
-    (λ c κs. (c .before .before .before .before .before .before .before .before .before .before .before .pre .1 .0, two-node t (c .before) ∙ c .before .before .before .before .before .before .node-at .ensures))
-    (λ c κs. let a = chain-arm t (c .before .before .before .before .before .before .before .before) refl in let s = two t (c .before .before .before) in let d = under (of-two s a .0) (c .before .before .before .before .before .before .before .before .before .before .before .before .before .pre .0) (c .before .before .before .before .before .before .before .before .before .before .before .before .before .pre .1 .0 .1) in (d .0, (d .1, room-first _ _ (room-is (below-two _ s a (c .before .before .tied-first2 .ensures) (c .before .tied-second .ensures)) (chain-room t (c .before .before .before .before))))))
-    (λ c κs. let a = chain-arm t (c .before .before .before .before .before .before .before .before .before .before .before .before) refl in let s = two t (c .before .before .before .before .before .before .before) in let d = under (of-two s a .1) (c .before .before .before .before .before .before .before .before .before .before .before .before .before .before .before .before .before .pre .0) (c .before .before .before .before .before .before .before .before .before .before .before .before .before .before .before .before .before .pre .1 .0 .1) in let w = c .before .before .before .check-chain2 .ensures in (d .0, (d .1, room-rest _ _ w (omega (arith, w .total)) (room-is (below-two _ s a (c .before .before .before .before .before .before .tied-first2 .ensures) (c .before .before .before .before .before .tied-second .ensures)) (chain-room t (c .before .before .before .before .before .before .before .before))))))
+    (λ c κs. let a = chain-arm t (c .before .before .before .before .before .before .before .before) refl in let s = base t (c .before .before .before) in let d = under-body (of-base s a) (c .before .before .before .before .before .before .before .before .before .before .before .before .before .pre .0) (c .before .before .before .before .before .before .before .before .before .before .before .before .before .pre .1 .0 .1) in (d .0, (d .1, room-is (below-base _ s a (c .before .before .tied-first .ensures) (c .before .asked-first .ensures)) (chain-room t (c .before .before .before .before)))))
+    (λ c κs. ((c .before .before .before .before .before .before .before .before .before .before .pre .1 .0 .0, c .before .before .before .before .before .before .before .before .before .before .pre .1 .0 .1), two-node t (c) ∙ c .before .before .before .before .before .node-at .ensures))
+    (λ c κs. ((c .before .before .before .before .before .before .before .before .before .before .before .pre .1 .0 .0, c .before .before .before .before .before .before .before .before .before .before .before .pre .1 .0 .1), two-node t (c .before) ∙ c .before .before .before .before .before .before .node-at .ensures))
+    (λ c κs. let a = chain-arm t (c .before .before .before .before .before .before .before .before) refl in let s = two t (c .before .before .before) in let d = under-body (of-two s a .0) (c .before .before .before .before .before .before .before .before .before .before .before .before .before .pre .0) (c .before .before .before .before .before .before .before .before .before .before .before .before .before .pre .1 .0 .1) in (d .0, (d .1, room-first _ _ (room-is (below-two _ s a (c .before .before .tied-first2 .ensures) (c .before .tied-second .ensures)) (chain-room t (c .before .before .before .before))))))
+    (λ c κs. let a = chain-arm t (c .before .before .before .before .before .before .before .before .before .before .before .before) refl in let s = two t (c .before .before .before .before .before .before .before) in let d = under-body (of-two s a .1) (c .before .before .before .before .before .before .before .before .before .before .before .before .before .before .before .before .before .pre .0) (c .before .before .before .before .before .before .before .before .before .before .before .before .before .before .before .before .before .pre .1 .0 .1) in let w = c .before .before .before .check-chain2 .ensures in (d .0, (d .1, room-rest _ _ w (omega (arith, w .total)) (room-is (below-two _ s a (c .before .before .before .before .before .before .tied-first2 .ensures) (c .before .before .before .before .before .tied-second .ensures)) (chain-room t (c .before .before .before .before .before .before .before .before))))))
     (λ c. search needs)
     (comparison-writes t)
     (λ c. search needs)
@@ -231,7 +231,7 @@ pub +check-chain+descend-nested-chains-spec : {M : Type 1} → statement M
     (λ c. search needs)
     (λ c κs. of-aggregate (aggregate t (c)) (operand-arm t (c .before) refl) .0 .has)
     (λ c κs. search needs)
-    (λ c κs. let a = operand-arm t (c .before .before .before .before) refl in let d = under (of-aggregate (aggregate t (c .before .before .before)) a .1) (c .before .before .before .before .before .before .before .pre .0) (c .before .before .before .before .before .before .before .pre .1 .0 .1) in (
+    (λ c κs. let a = operand-arm t (c .before .before .before .before) refl in let d = under-body (of-aggregate (aggregate t (c .before .before .before)) a .1) (c .before .before .before .before .before .before .before .pre .0) (c .before .before .before .before .before .before .before .pre .1 .0 .1) in (
       d .0,
       (
         d .1,

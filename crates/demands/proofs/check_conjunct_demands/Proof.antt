@@ -5,7 +5,7 @@ use borrow.Author.Needs.{needs}
 use Rattle.paper.specs.declared.Node.{Node}
 use Rattle.paper.specs.Sets.{_∪_}
 use Rattle.trees.proofs.Arms.{Arm, arm}
-use Rattle.facts.proofs.NotedLaws.{body-row, term-row}
+use Rattle.known.proofs.RowLaws.{body-row, term-row}
 use Rattle.writes.proofs.WriteLaws.{wrote-none, wrote-is, room-is}
 use Rattle.demands.proofs.DemandLaws.{owed-comparison, owed-not, owed-since, owed-none}
 use Rattle.demands.proofs.check_conjunct_demands.Statement.{statement}

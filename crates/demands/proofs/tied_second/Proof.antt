@@ -4,7 +4,7 @@ use denote.Ref.{now}
 use borrow.Author.Needs.{needs}
 use Rattle.paper.specs.declared.Node.{Node}
 use Rattle.trees.proofs.Arms.{Arm, arm}
-use Rattle.facts.proofs.NotedLaws.{body-row}
+use Rattle.known.proofs.RowLaws.{body-row}
 use Rattle.demands.proofs.DemandLaws.{second-and, second-same}
 use Rattle.demands.proofs.tied_second.Statement.{statement}
 use Rattle.demands.proofs.tied_second.Tie as tie

@@ -18,7 +18,7 @@ returns-2 c =
 check-chain-requires : tie.Need-check-chain-requires
 check-chain-requires c κs =
     let asked = c .before in (
-      (let s = asked .before .before .before .before .before .pre .0 in (s .0, s .1)),
+      asked .before .before .before .before .before .pre .0,
       room-is (demands-are _ (asked .empty .ensures) (sym (asked .before .before .body-has-sigil .ensures) ∙ asked .before .if1 .left))
           (asked .before .before .before .before .before .pre .1),
     )

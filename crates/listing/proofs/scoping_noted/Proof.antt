@@ -1,5 +1,6 @@
 -- `scoping_noted` notes the facts of the nodes, and walks over them.
 use borrow.Author.Needs.{needs}
+use Rattle.listing.proofs.ListingLaws.{from-last}
 use Rattle.listing.proofs.scoping_noted.Statement.{statement}
 use Rattle.listing.proofs.scoping_noted.Tie as tie
 
@@ -8,7 +9,7 @@ scoping-noted-spec =
     tie.close
     (tie.spec
     (λ c κs. search needs)
-    (λ c κs. search needs)
+    (λ c κs. let s = c .before .before .before .before .before .before .before .pre in (from-last (s .0 .0) (c .before .before .before .note .ensures), s .1))
     (λ c. search needs)
     (λ c. search needs)
     (λ c. search needs))

@@ -18,7 +18,7 @@ write-list-spec =
     (tie.spec
     (λ c κs. search needs)
     (λ c κs. (
-      (let s = c .before .before .before .before .pre .0 in (s .0, s .1)),
+      c .before .before .before .before .pre .0,
       room-first _ _ (room-is (listed-are _ _ _ (c .before .empty .ensures)) (c .before .before .before .before .pre
           .1)),
     ))

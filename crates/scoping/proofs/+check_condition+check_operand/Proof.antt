@@ -9,7 +9,7 @@ use Rattle.paper.specs.declared.Node.{Node}
 use Rattle.paper.specs.declared.Node.the-variants as node
 use Rattle.paper.specs.Sets.{_∪_}
 use Rattle.trees.proofs.Arms.{Arm, arm}
-use Rattle.facts.proofs.NotedLaws.{under, plain-body}
+use Rattle.known.proofs.RowLaws.{under, under-body}
 use Rattle.trees.proofs.Shapes.{Two, Unbound, Aggregate, not, sum, count, of-two, of-unbound, of-aggregate, met₁, met₂}
 use Rattle.trees.proofs.Shapes.Two.{and as two-and, or, since}
 use Rattle.trees.proofs.Shapes.One.{formerly, previous}
@@ -37,7 +37,7 @@ use Rattle.places.proofs.binders.check_exists_safe.Reads as check-exists-safe-r
 use Rattle.places.proofs.binders.reject_reserved_binder.Reads as reject-reserved-binder-reads
 use Rattle.places.proofs.nested.reject_nested_agg.Reads as reject-nested-agg-reads
 use Rattle.record.proofs.access.node_at.Reads as node-at-reads
-use Rattle.facts.proofs.is_plain.Reads as is-plain-reads
+use Rattle.rows.proofs.read.is_plain.Reads as is-plain-reads
 use Rattle.scoping.proofs.+check_condition+check_operand.{statement}
 use Rattle.scoping.proofs.+check_condition+check_operand.Tie.{close}
 
@@ -188,8 +188,8 @@ pub +check-condition+check-operand-spec : {M : Type 1} → statement M
 +check-condition+check-operand-spec =
     close μ-condition μ-operand
     (λ t. check-condition-lts.spec (condition-claims t) (condition-at t) check-condition.Post
-    (λ c κs. let s = c .before .before .pre .1 .0 in (s .0 .1, s .1))
-    (λ c. wrote-is (plain-scoped _ _ _ (plain-body _ (sym (c .before .is-plain .ensures) ∙ c .if1 .taken))) wrote-none)
+    (λ c κs. let s = c .before .before .pre .1 .0 in (s .0 .1, s .1, s .2))
+    (λ c. wrote-is (plain-scoped _ _ _ (sym (c .before .is-plain .ensures) ∙ c .if1 .taken)) wrote-none)
     (λ c κs. c .before .before .before .before .pre .1 .0 .0)
     (λ c. search needs)
     (λ c. search needs)
@@ -212,7 +212,7 @@ pub +check-condition+check-operand-spec : {M : Type 1} → statement M
     (λ c κs. slot-tabled (c .before .before .before .before .before .before .before .before .before .node8 .given .0 .0) (condition-arm t (c .before .before .before .before .before .before .before .before .before .before .before) (c .before .before .before .before .before .before .before .before .before .node8 .given .1)
     .tabled))
     (λ c κs. search needs)
-    (λ c κs. let a = condition-arm t (c .before .before .before .before .before .before .before .before .before .before .before .before .before .before) (c .before .before .before .before .before .before .before .before .before .before .before .before .node8 .given .1) in let d = under (a .children .0) (c .before .before .before .before .before .before .before .before .before .before .before .before .before .before .before .before .before .before .before .pre .0) (c .before .before .before .before .before .before .before .before .before .before .before .before .before .before .before .before .before .before .before .pre .1 .0 .1) in (
+    (λ c κs. let a = condition-arm t (c .before .before .before .before .before .before .before .before .before .before .before .before .before .before) (c .before .before .before .before .before .before .before .before .before .before .before .before .node8 .given .1) in let d = under-body (a .children .0) (c .before .before .before .before .before .before .before .before .before .before .before .before .before .before .before .before .before .before .before .pre .0) (c .before .before .before .before .before .before .before .before .before .before .before .before .before .before .before .before .before .before .before .pre .1 .0 .1) in (
       d .0,
       (
         d .1,
@@ -257,11 +257,11 @@ pub +check-condition+check-operand-spec : {M : Type 1} → statement M
           (a .tabled),
       room-is (scoped-tp _ _ a) (c .before .before .before .before .before .before .before .before .before .pre .1 .1),
     ))
-    (λ c κs. let a = condition-arm t (c .before .before) refl in let d = under (of-unbound (passes t (c .before)) a) (c .before .before .before .before .before .before .before .pre .0) (c .before .before .before .before .before .before .before .pre .1 .0 .1) in
+    (λ c κs. let a = condition-arm t (c .before .before) refl in let d = under-body (of-unbound (passes t (c .before)) a) (c .before .before .before .before .before .before .before .pre .0) (c .before .before .before .before .before .before .before .pre .1 .0 .1) in
     (d .0, (d .1, room-is (unbound-law (scoped-one _ _) (scoped-refine _ _) (passes t (c .before)) a) (c .before .before .before .before .before .before .before .pre .1 .1))))
-    (λ c κs. let a = condition-arm t (c .before .before) refl in let d = under (of-two (joins t (c .before)) a .0) (c .before .before .before .before .before .before .before .pre .0) (c .before .before .before .before .before .before .before .pre .1 .0 .1) in
+    (λ c κs. let a = condition-arm t (c .before .before) refl in let d = under-body (of-two (joins t (c .before)) a .0) (c .before .before .before .before .before .before .before .pre .0) (c .before .before .before .before .before .before .before .pre .1 .0 .1) in
     (d .0, (d .1, room-first _ _ (room-is (two-law (scoped-two _ _) (joins t (c .before)) a) (c .before .before .before .before .before .before .before .pre .1 .1)))))
-    (λ c κs. let a = condition-arm t (c .before .before .before .before .before .before) refl in let d = under (of-two (joins t (c .before .before .before .before .before)) a .1) (c .before .before .before .before .before .before .before .before .before .before .before .pre .0) (c .before .before .before .before .before .before .before .before .before .before .before .pre .1 .0 .1) in (
+    (λ c κs. let a = condition-arm t (c .before .before .before .before .before .before) refl in let d = under-body (of-two (joins t (c .before .before .before .before .before)) a .1) (c .before .before .before .before .before .before .before .before .before .before .before .pre .0) (c .before .before .before .before .before .before .before .before .before .before .before .pre .1 .0 .1) in (
       d .0,
       (
         d .1,
@@ -309,13 +309,13 @@ pub +check-condition+check-operand-spec : {M : Type 1} → statement M
     (λ c κs. c .before .before .before .before .pre .1 .0 .0)
     (operand-returns t)
     (λ c κs. (
-      c .before .before .before .before .before .before .before .pre .1 .0,
+      (c .before .before .before .before .before .before .before .pre .1 .0 .0, c .before .before .before .before .before .before .before .pre .1 .0 .1),
       room-first _ _ (room-is (scoped-aggregate _ _ (gathers t (c .before .before .before)) refl (operand-arm t (c .before .before .before .before) refl) (sym (c .before .before .is-skipped .ensures) ∙ c .before .if1 .left)) (c .before .before .before .before .before .before .before .pre .1 .1)),
     ))
     (λ c κs. of-aggregate (gathers t (c .before .before .before .before .before .before)) (operand-arm t (c .before .before .before .before .before .before .before)
     refl) .0 .has)
     (λ c κs. search needs)
-    (λ c κs. let a = operand-arm t (c .before .before .before .before .before .before .before .before .before .before) refl in let d = under (of-aggregate (gathers t (c .before .before .before .before .before .before .before .before .before)) a .1) (c .before .before .before .before .before .before .before .before .before .before .before .before .before .pre .0) (c .before .before .before .before .before .before .before .before .before .before .before .before .before .pre .1 .0 .1) in (
+    (λ c κs. let a = operand-arm t (c .before .before .before .before .before .before .before .before .before .before) refl in let d = under-body (of-aggregate (gathers t (c .before .before .before .before .before .before .before .before .before)) a .1) (c .before .before .before .before .before .before .before .before .before .before .before .before .before .pre .0) (c .before .before .before .before .before .before .before .before .before .before .before .before .before .pre .1 .0 .1) in (
       d .0,
       (
         d .1,

@@ -1,2 +1,0 @@
-pub mod FactsLaws
-pub mod NotedLaws

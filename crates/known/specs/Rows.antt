@@ -1,0 +1,83 @@
+-- When a row holds what is known of its node, when rows do for all nodes, and how they are changed. Assumes nothing: these are definitions.
+use mathlib.Core.Path.{_≡_}
+use mathlib.Core.List.{List, [], List·Memᴰ}
+use Prim.Native.Nat.{ℕ, _<_, _≤_}
+use mathlib.Core.Bool.{Bool, true, _||_}
+use lib.Dec.{eqb}
+use lib.ListN.{length, getD, set}
+use Rattle.paper.specs.declared.Node.{Node}
+use Rattle.paper.specs.declared.Node.the-variants.{ListEnd}
+use Rattle.paper.specs.Record.{Sort}
+use Rattle.paper.specs.Shape.{references, names-in}
+use Rattle.paper.proofs.Walks.{All}
+use Rattle.names.specs.Words.{mem}
+use Rattle.record.specs.Stored.{contents, Has}
+use Rattle.trees.specs.Trees.{tree-of, is-condition, is-term}
+use Rattle.known.specs.Known.{Known, known-of, parts-of, nodes-of}
+use Rattle.known.specs.declared.Facts.{Facts}
+
+-- what facts in words say
+unfoldable pub meant : Facts → Known
+meant f = record { free = mem (f .free); restricted = mem (f .restricted); sigil = f .sigil; plain = f .plain }
+
+-- the facts in a row: two words for each set, and 1 for a sigil, 2 for a plain node, 3 for both
+unfoldable pub facts-in : List ℕ → Facts
+facts-in row =
+    record {
+      free = record { lo = getD row 0 0; hi = getD row 1 0 };
+      restricted = record { lo = getD row 2 0; hi = getD row 3 0 };
+      sigil = eqb (getD row 4 0) 1 || eqb (getD row 4 0) 3;
+      plain = eqb (getD row 4 0) 2 || eqb (getD row 4 0) 3;
+    }
+
+abbrev pub facts-at : List (List ℕ) → ℕ → Facts
+facts-at rows k = facts-in (getD rows k [])
+
+-- row k holds what is known of node k
+pub record Right (bytes : List ℕ) (rows : List (List ℕ)) (k : ℕ) : Type 0 where
+  pub holds : meant (facts-at rows k) ≡ known-of (tree-of bytes k)
+
+-- conditions and terms have rows that are read; the cells of lists have none
+abbrev pub has-row : List ℕ → ℕ → Bool
+has-row bytes k = is-condition (tree-of bytes k) || is-term (tree-of bytes k)
+
+pub record Noted (bytes : List ℕ) (rows : List (List ℕ)) : Type 0 where
+  pub fits : length (contents bytes .nodes) ≤ length rows
+  pub row : (k : ℕ) → k < length (contents bytes .nodes) → has-row bytes k ≡ true → Right bytes rows k
+
+-- what the facts of a node m are found from: the rows of its parts, names of the table, and nodes that the array has
+pub record Sound (bytes starts : List ℕ) (rows : List (List ℕ)) (m : Node) : Type 0 where
+  pub parts : All (λ k. (k < length rows) × Right bytes rows k) (nodes-of (parts-of m))
+  pub has : All (λ q. Has bytes starts (q .1)) (references m)
+  pub tabled : All (λ x. x < 128) (names-in m)
+
+-- ---- what a call on a node does to the rows
+
+-- row i alone is changed, and holds these facts
+pub record Put (before : List (List ℕ)) (i : ℕ) (f : Facts) (after : List (List ℕ)) : Type 0 where
+  pub row : List ℕ
+  pub holds : facts-in row ≡ f
+  pub there : after ≡ set before i row
+
+-- what was right stays right
+pub record Kept (bytes : List ℕ) (before after : List (List ℕ)) : Type 0 where
+  pub long : length after ≡ length before
+  pub right : (k : ℕ) → Right bytes before k → Right bytes after k
+
+abbrev pub node-of : List ℕ → ℕ → Node
+node-of bytes i = getD (contents bytes .nodes) i ListEnd
+
+-- node i refers to node k
+abbrev pub Refers : List ℕ → ℕ → ℕ → Type 0
+Refers bytes i k = (s : Sort) × List·Memᴰ (s, k) (references (node-of bytes i))
+
+-- node k is node i, or stands below it
+pub data Reaches (bytes : List ℕ) : ℕ → ℕ → Type 0 where
+  here : {i : ℕ} → Reaches bytes i i
+  by : {i j k : ℕ} → Refers bytes i j → Reaches bytes j k → Reaches bytes i k
+
+-- the rows of node i and of all conditions and terms below it are right, and none was spoilt
+pub record Gathered (bytes : List ℕ) (before after : List (List ℕ)) (i : ℕ) : Type 0 where
+  pub kept : Kept bytes before after
+  pub here : Right bytes after i
+  pub below : (k : ℕ) → Reaches bytes i k → has-row bytes k ≡ true → Right bytes after k
