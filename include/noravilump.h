@@ -6,11 +6,12 @@
  * function stands in its contract, in crates/noravilump/src/lib.rt.
  *
  * Who owns what: all memory is the caller's. The library allocates nothing, keeps no pointer and has no state, so that any number of threads may call it at
- * once. No call was measured to take more than 48 KiB of stack.
+ * once. No call was measured to take more than 48 KiB of stack; no proof bounds it.
  *
- * Pointers: `record` must lead to `len` bytes that nobody changes during the call, and `entries` to `room` aligned entries of the caller's own. None may be
- * NULL, not even where its length is 0: the proofs speak of slices, and a slice has an address. (Nothing is read or written where the length is 0, and NULL was
- * tried and does no harm with the compiler of today; but no proof says so.)
+ * Pointers: `record` must lead to `len` bytes that nobody changes during the call, and `entries` to `room` aligned entries of the caller's own. `len` is at most
+ * PTRDIFF_MAX, and `room` at most PTRDIFF_MAX / 4, as for any array in C. None may be NULL, not even where its length is 0: the proofs speak of slices, and
+ * a slice has an address. The data() of an empty std::vector may be NULL: where there is nothing to pass, pass the address of any byte with `len` 0, or of any
+ * uint32_t with `room` 0. Nothing is read or written there.
  */
 #ifndef NORAVILUMP_H
 #define NORAVILUMP_H
@@ -22,7 +23,8 @@
 extern "C" {
 #endif
 
-/* The largest record that can be accepted, in bytes: 128 names and 512 nodes. Longer bytes may be asked about, and are refused. */
+/* The largest record that can be accepted, in bytes: 2 of format, 128 names of 25, 512 nodes with 3,053 together, and 3 of the end. docs/DECISIONS.md counts the
+ * nodes; no proof does. Longer bytes may be asked about, and are refused. */
 #define NORAVILUMP_LARGEST_RECORD 6258
 
 /* No list has more entries: a buffer of so many is never too short. Most lists have a handful. */

@@ -48,16 +48,16 @@ fn kind_word(n: Node) {
     say(table, hexadecimal(kind(n)), b"");
 }
 
-// Document 01 says that 0 is equality, and request W-207 that 1 is 'less' and 2 'at most'; of 3 to 5 nothing is said.
+// Document 01 says that 0 is equality, and request W-207 that 1 is 'less' and 2 'at most'. Which of the others 3 to 5 are is our reading.
 fn comparing(op: u8) {
     say(
-        b"00 ==\n01 <\n02 <=\n03 op 3\n04 op 4\n05 op 5\n",
+        b"00 ==\n01 <\n02 <=\n03 >\n04 >=\n05 !=\n",
         decimal(op),
         b"",
     );
 }
 
-// In the order of the Rust's `ArithOp` (oracle/dogwood, ast.rs).
+// Our reading too: the order of the Rust's `ArithOp` (oracle/dogwood, ast.rs).
 fn computing(op: u8) {
     say(b"00 +\n01 -\n02 *\n", decimal(op), b"");
 }

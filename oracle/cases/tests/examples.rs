@@ -61,7 +61,7 @@ fn a_record_is_worded_in_each_way() {
     // x != x + *
     let name = [&[2, b'x'][..], &[0; 23]].concat();
     let nodes = [
-        0x20, 0, 0x20, 0, 0x21, 0x28, 0, 1, 0, 2, 0, 0x17, 1, 0, 0, 3, 0,
+        0x20, 0, 0x20, 0, 0x21, 0x28, 0, 1, 0, 2, 0, 0x17, 5, 0, 0, 3, 0,
     ];
     let bytes = [&[1, 1][..], &name, &nodes, &[0x7F, 5, 0]].concat();
     assert_eq!(worded(&bytes), "28@4 x, 31@4 x; arithmetic yes");

@@ -209,15 +209,15 @@ fn aggregate(kind: AggExprKind) -> Term {
     Term::Agg(Box::new(AggExpr { span: Span, kind }))
 }
 
-// Document 01 treats 1 to 5 alike and names none of them: any order of the other five will do.
+// Document 01 names 0 alone, and document 02 (W-207) 1 and 2; 3 to 5 are our reading (docs/DECISIONS.md). The checks treat 1 to 5 alike.
 fn comparison_op(op: u8) -> CmpOp {
     match op {
         0 => CmpOp::Eq,
-        1 => CmpOp::NotEq,
-        2 => CmpOp::Lt,
+        1 => CmpOp::Lt,
+        2 => CmpOp::Le,
         3 => CmpOp::Gt,
-        4 => CmpOp::Le,
-        5 => CmpOp::Ge,
+        4 => CmpOp::Ge,
+        5 => CmpOp::NotEq,
         _ => unreachable!("the reader takes no comparison op {op}"),
     }
 }

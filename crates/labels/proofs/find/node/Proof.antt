@@ -33,13 +33,15 @@ returns c = no-node _ _ _ _ (sym (c .before .before .before .read .ensures .said
 returns-2 : tie.Need-returns-2
 returns-2 c =
     let v = c .before .before .before in
-    past-the-last _ _ _ _ (sym (v .before .before .before .read .ensures .said) ∙ v .v .given .1) (c .if1 .taken)
+    let past = c .if1 .taken in
+    past-the-last _ _ _ _ (sym (v .before .before .before .read .ensures .said) ∙ v .v .given .1) (omega arith)
 
 node-at-requires : tie.Need-node-at-requires
 node-at-requires c κs =
     let v = c .before .before .before .before .before in
     let asked = v .before .before .before .read .ensures in
-    (read-stored _ _ asked, one-of-them _ _ _ _ (sym (asked .said) ∙ v .v .given .1) (c .before .before .if1 .left))
+    let not-past = c .before .before .if1 .left in
+    (read-stored _ _ asked, one-of-them _ _ _ _ (sym (asked .said) ∙ v .v .given .1) (omega arith))
 
 pub node-spec : {M : Type 1} → statement M
 node-spec =
