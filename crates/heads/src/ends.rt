@@ -2,14 +2,14 @@
 ghost use mathlib.Core.Path.{_≡_};
 ghost use Prim.Native.Nat.{_≤_};
 ghost use Rattle.paper.specs.Sets.{all-below};
-ghost use Rattle.heads.specs.Ends.{marks, rooted-in, ended-in};
-use fields::fields::fits;
+ghost use Rattle.memory.specs.Ends.{marks, rooted-in, ended-in};
+use kinds::fits;
 use octets::long;
 use octets::number;
 use paper::Verdict;
 
 // Whether each of the first n nodes is marked.
-pub fn all_marked(used: &[u8; 512], n: usize) -> bool
+fn all_marked(used: &[u8; 512], n: usize) -> bool
     requires { ⌜ n ≤ 512 ⌝ }
     ensures { λ r. ⌜ r ≡ all-below n (marks (now (used .entry))) ⌝ }
 {
@@ -33,7 +33,7 @@ fn turned_away(number: u8, offset: usize) -> Verdict
 }
 
 // 13, or the counts.
-pub fn rooted<'a>(
+fn rooted<'a>(
     at: usize,
     names: usize,
     nodes: usize,

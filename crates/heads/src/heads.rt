@@ -1,25 +1,18 @@
-// What a kind byte, and how much follows it, say of a record.
+// The head of a record: what its kind byte, and how much follows it, say of it.
 ghost use mathlib.Core.Path.{_≡_};
-ghost use Rattle.heads.specs.Heads.{order-by, full-by, Headed};
-use fields::rows::Row;
+ghost use Rattle.memory.specs.Heads.{order-by, full-by, Headed};
+use memory::Head;
+use memory::Row;
 use octets::wide;
 
-pub enum Head {
-    Bad(u8),
-    Format,
-    Name,
-    Node,
-    End,
-}
-
 // Whether a class of records may stand after what was read.
-pub fn order(class: u8, begun: bool, nodes: usize) -> bool
+fn order(class: u8, begun: bool, nodes: usize) -> bool
     ensures { λ r. ⌜ r ≡ order-by class begun nodes ⌝ }
 {
     ((class == 1) & !begun) | (((class == 2) & (begun & (nodes == 0))) | ((3 <= class) & begun))
 }
 
-pub fn full(class: u8, names: usize, nodes: usize) -> bool
+fn full(class: u8, names: usize, nodes: usize) -> bool
     ensures { λ r. ⌜ r ≡ full-by class names nodes ⌝ }
 {
     ((class == 2) & (128 <= names)) | ((class == 3) & (512 <= nodes))

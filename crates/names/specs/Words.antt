@@ -9,5 +9,9 @@ use Rattle.names.specs.declared.Names.{Names}
 unfoldable pub bit : ℕ → ℕ → Bool
 bit x k = eqb (x / 2 ^ k % 2) 1
 
+-- the set that two words of a width stand for
+unfoldable pub both : ℕ → ℕ → ℕ → Set
+both w low high k = cond (ltb k w) (bit low k) (bit high (k - w))
+
 unfoldable pub mem : Names → Set
-mem s k = cond (ltb k 64) (bit (s .lo) k) (bit (s .hi) (k - 64))
+mem s = both 64 (s .lo) (s .hi)

@@ -1,9 +1,9 @@
 // Sets of names, 128 of them in two words by value.
 use paper::NameNo;
 ghost use mathlib.Core.Path.{_≡_};
-ghost use Prim.Native.Nat.{_<_, _≤_};
-ghost use Rattle.paper.specs.Sets.{none, only, _∪_, _∩_, _∖_, below as below-count, outside, all-below};
-ghost use Rattle.names.specs.Words.{bit, mem};
+ghost use Prim.Native.Nat.{_<_};
+ghost use Rattle.paper.specs.Sets.{none, only, _∪_, _∩_, _∖_, outside, all-below};
+ghost use Rattle.names.specs.Words.{mem};
 
 // Bit k of lo is name k, bit k of hi is name 64 + k.
 pub struct Names {
@@ -73,35 +73,6 @@ pub fn member(s: Names, n: NameNo) -> bool
         return (s.hi >> (k - 64)) & 1 == 1;
     }
     false
-}
-
-// The first `count` bits of a word, all of them from 64 on.
-fn low_bits(count: u8) -> u64
-    requires { ⌜ count ≤ 64 ⌝ }
-    ensures { λ r. ⌜ bit r ≡ below-count count ⌝ }
-{
-    if count < 64 {
-        (1u64 << count) - 1
-    } else {
-        0xFFFF_FFFF_FFFF_FFFF
-    }
-}
-
-// All names below a count.
-pub fn below(count: u8) -> Names
-    requires { ⌜ count ≤ 128 ⌝ }
-    ensures { λ r. ⌜ mem r ≡ below-count count ⌝ }
-{
-    if count < 64 {
-        return Names {
-            lo: low_bits(count),
-            hi: 0,
-        };
-    }
-    Names {
-        lo: low_bits(64),
-        hi: low_bits(count - 64),
-    }
 }
 
 pub fn is_empty(s: Names) -> bool

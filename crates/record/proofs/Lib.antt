@@ -1,5 +1,4 @@
 -- The laws that the reader's proofs cite.
 pub mod Lying
-pub mod ReadLaws
 pub mod Verdicts
 pub mod StoredLaws

@@ -9,8 +9,9 @@ use Rattle.paper.specs.declared.Verdict.the-variants.{Counts, Refused}
 use Rattle.paper.specs.TurnedAway.{Contents, Outcome, refused, accepted, verdict, read}
 use Rattle.paper.specs.TheList.{trimmed, name-text}
 use Rattle.paper.specs.Questions.{name, name-of}
-use Rattle.nodes.specs.Decoded.{node-from}
-use Rattle.record.specs.Arena.{start-of, Read}
+use Rattle.memory.specs.Decoded.{node-from}
+use Rattle.memory.specs.Starts.{start-of}
+use Rattle.record.specs.Arena.{Read}
 use Rattle.record.specs.Stored.{contents-of, contents, Stored}
 use Rattle.record.specs.declared.reader.Reading.{Reading}
 use Rattle.record.proofs.Lying.{Lies, lies}

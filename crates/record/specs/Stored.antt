@@ -3,9 +3,8 @@ use Prim.Native.Nat.{ℕ, _<_}
 use mathlib.Core.Path.{_≡_}
 use mathlib.Core.List.{List, []}
 use lib.ListN.{length, getD}
-use Rattle.paper.specs.declared.Node.{Node}
 use Rattle.paper.specs.TurnedAway.{Contents, Outcome, refused, accepted, read}
-use Rattle.record.specs.Arena.{start-of}
+use Rattle.memory.specs.Starts.{start-of}
 
 unfoldable pub contents-of : Outcome → Contents
 contents-of (refused number offset) = record { names = []; nodes = [] }

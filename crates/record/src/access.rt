@@ -41,7 +41,8 @@ pub fn name(bytes: &[u8], x: NameNo) -> &[u8]
     let r = read(bytes);
     let v = r.verdict;
     let Verdict::Counts { names, nodes: _ } = v else {
-        return &bytes[..0];
+        // Nothing stands past the end.
+        return stretch(bytes, bytes.len());
     };
     let k = x.0 as usize;
     if names <= k {

@@ -8,7 +8,7 @@ ghost use mathlib.Core.Path.{_≡_};
 ghost use Prim.Native.Nat.{_≤_, _<_};
 ghost use Rattle.paper.specs.Sets.{_∪_};
 ghost use Rattle.names.specs.Words.{mem};
-ghost use Rattle.table.specs.Names.{named-in, noted-in};
+ghost use Rattle.memory.specs.Naming.{named-in, reserved-as};
 
 // The fault of a new name, or 0: 4 where it is none, 5 where it is not above the one before.
 pub fn named(n: [u8; 24], names: &[[u8; 24]; 128], count: usize) -> u8
@@ -25,10 +25,10 @@ pub fn named(n: [u8; 24], names: &[[u8; 24]; 128], count: usize) -> u8
     if precedes(last, n) { 0 } else { 5 }
 }
 
-// The reserved names, with one name more.
-pub fn noted(reserved: Names, n: [u8; 24], x: usize) -> Names
+// The reserved names, with the name of number x where it is a reserved word.
+pub fn reserved_with(reserved: Names, n: [u8; 24], x: usize) -> Names
     requires { ⌜ x < 128 ⌝ }
-    ensures { λ r. ⌜ mem r ≡ mem reserved ∪ noted-in n x ⌝ }
+    ensures { λ r. ⌜ mem r ≡ mem reserved ∪ reserved-as n x ⌝ }
 {
     if is_reserved(n) {
         return names::union(reserved, names::single(NameNo((x % 256) as u8)));

@@ -1,14 +1,13 @@
 -- Each arm of `node_from` reads the fields of its kind's body at their offsets, and the last has the kinds that carry nothing.
 use borrow.Author.Needs.{needs}
-use Rattle.paper.specs.Record.{kinds}
-use Rattle.nodes.proofs.Offsets.{said, arms}
-use Rattle.nodes.proofs.Unnamed.{last-arm}
+use Rattle.memory.proofs.NodeLaws.{said, arms}
+use Rattle.memory.proofs.Unnamed.{Rest, last-arm}
 use Rattle.nodes.proofs.node_from.Statement.{statement}
 use Rattle.nodes.proofs.node_from.Tie as tie
 
 -- in order: the place after the kind fits; no reader asks anything of its caller; the arms, as the source has them
 pub node-from-spec : {M : Type 1} → statement M
-unfolding said kinds
+unfolding said Rest
 node-from-spec =
     tie.close
     (tie.spec

@@ -1,7 +1,7 @@
 -- `named` meets its contract: each return has the tests that led to it. Assumes nothing.
 use mathlib.Core.Path.{sym, _∙_}
 use borrow.Author.Tests.{eq-eqb, ne-eqb, not-true, not-false}
-use Rattle.table.specs.Names.{named-in}
+use Rattle.memory.specs.Naming.{named-in}
 use borrow.Author.Needs.{needs}
 use Rattle.table.proofs.named.Statement.{statement}
 use Rattle.table.proofs.named.Tie as tie

@@ -1,13 +1,13 @@
 -- `ends::all_marked` meets its contract. The loop's invariant: each node passed is marked. Assumes nothing.
-use Prim.Native.Nat.{_≤_, _<_, _-_}
+use Prim.Native.Nat.{_≤_, _-_}
 use mathlib.Core.Path.{_≡_, refl, sym}
 use mathlib.Core.Bool.{true}
 use native.Mathlib.Omega.{arith}
 use borrow.Author.Needs.{needs}
 use borrow.Author.Tests.{ne-eqb}
 use Rattle.paper.specs.Sets.{all-below}
-use Rattle.heads.specs.Ends.{marks}
-use Rattle.heads.proofs.EndLaws.{all-stop, all-more}
+use Rattle.memory.specs.Ends.{marks}
+use Rattle.memory.proofs.EndLaws.{all-stop, all-more}
 use Rattle.heads.proofs.ends.all_marked.Statement.{statement}
 use Rattle.heads.proofs.ends.all_marked.Tie as tie
 

@@ -1,6 +1,6 @@
 -- `ends::ended` meets its contract: its test is the definition's, and `rooted` says the rest. Assumes nothing.
 use Rattle.paper.specs.Record.{two-bytes}
-use Rattle.heads.specs.Ends.{ended-in}
+use Rattle.memory.specs.Ends.{ended-in}
 use borrow.Author.Needs.{needs}
 use Rattle.heads.proofs.ends.ended.Statement.{statement}
 use Rattle.heads.proofs.ends.ended.Tie as tie

@@ -1,6 +1,6 @@
 -- `ends::rooted` meets its contract: each return has the tests that led to it. Assumes nothing.
 use borrow.Author.Tests.{eq-eqb, ne-eqb}
-use Rattle.heads.specs.Ends.{rooted-in}
+use Rattle.memory.specs.Ends.{rooted-in}
 use borrow.Author.Needs.{needs}
 use Rattle.heads.proofs.ends.rooted.Statement.{statement}
 use Rattle.heads.proofs.ends.rooted.Tie as tie

@@ -1,5 +1,5 @@
 -- `heads::full` meets its contract: its test is the definition's. Assumes nothing.
-use Rattle.heads.specs.Heads.{full-by}
+use Rattle.memory.specs.Heads.{full-by}
 use Rattle.heads.proofs.heads.full.Statement.{statement}
 use Rattle.heads.proofs.heads.full.Tie as tie
 use mathlib.Core.Path.{refl}

@@ -6,7 +6,7 @@ use native.Mathlib.Omega.{arith}
 use lib.Dec.{leb}
 use borrow.Author.Tests.{le-leb, lt-leb, leb-false, eq-eqb, ne-eqb, not-true, not-false}
 use borrow.Author.Needs.{needs}
-use Rattle.heads.specs.Heads.{head-by, order-by, full-by}
+use Rattle.memory.specs.Heads.{head-by, order-by, full-by}
 use Rattle.heads.proofs.heads.head_of.Statement.{statement}
 use Rattle.heads.proofs.heads.head_of.Tie as tie
 
@@ -38,7 +38,7 @@ order-requires c κs = search needs
 
 returns : tie.Need-returns
 unfolding head-by
-returns c = record { is = simp (sym (c .before .order .ensures) ∙ not-true _ (c .if1 .taken)); room = tt }
+returns c = record { is = simp (sym (c .before .order .ensures) ∙ not-true _ (c .if1 .taken)); allows = tt }
 
 wide-requires : tie.Need-wide-requires
 wide-requires c κs = search needs
@@ -48,7 +48,7 @@ unfolding head-by
 returns-2 c =
     let o = sym (c .before .before .before .order .ensures) ∙ not-false _ (c .before .before .if1 .left) in
     let l = rw (c .before .wide .ensures) at (lt-leb _ _ (c .if2 .taken)) in
-    record { is = simp (o, l); room = tt }
+    record { is = simp (o, l); allows = tt }
 
 full-requires : tie.Need-full-requires
 full-requires c κs = search needs
@@ -58,13 +58,13 @@ unfolding head-by
 returns-3 c =
     let o = sym (c .before .before .before .before .before .order .ensures) ∙ not-false _ (c .before .before .before .before .if1 .left) in
     let l = rw (c .before .before .before .wide .ensures) at (le-leb _ _ (c .before .before .if2 .left)) in
-    record { is = simp (o, l, sym (c .before .full .ensures) ∙ c .if3 .taken); room = tt }
+    record { is = simp (o, l, sym (c .before .full .ensures) ∙ c .if3 .taken); allows = tt }
 
 returns-4 : tie.Need-returns-4
 unfolding head-by
 returns-4 c =
     let d = c .before in
-    record { is = simp (in-order d, le-leb _ _ (uncut d), space d, eq-eqb _ _ (c .match .keys1)); room = c .match .keys1 }
+    record { is = simp (in-order d, le-leb _ _ (uncut d), space d, eq-eqb _ _ (c .match .keys1)); allows = c .match .keys1 }
 
 returns-5 : tie.Need-returns-5
 unfolding head-by
@@ -73,7 +73,7 @@ returns-5 c =
     let e = c .match .keys2 in
     record {
       is = simp (in-order d, le-leb _ _ (uncut d), space d, ne-eqb (d .before .before .before .before .before .before .args .row .class) 1 (λ k. omega arith), eq-eqb _ _ e);
-      room = (e, uncut d, name-room _ _ (rw e at (space d)));
+      allows = (e, uncut d, name-room _ _ (rw e at (space d)));
     }
 
 returns-6 : tie.Need-returns-6
@@ -83,7 +83,7 @@ returns-6 c =
     let e = c .match .keys3 in
     record {
       is = simp (in-order d, le-leb _ _ (uncut d), space d, ne-eqb (d .before .before .before .before .before .before .args .row .class) 1 (λ k. omega arith), ne-eqb (d .before .before .before .before .before .before .args .row .class) 2 (λ k. omega arith), eq-eqb _ _ e);
-      room = (e, node-room _ _ (rw e at (space d)));
+      allows = (e, node-room _ _ (rw e at (space d)));
     }
 
 returns-7 : tie.Need-returns-7
@@ -91,7 +91,7 @@ unfolding head-by
 returns-7 c =
     let d = c .before in
     let m = c .match .rest in
-    record { is = simp (in-order d, le-leb _ _ (uncut d), space d, ne-eqb _ _ (m .0 .0 .1), ne-eqb _ _ (m .0 .1), ne-eqb _ _ (m .1)); room = tt }
+    record { is = simp (in-order d, le-leb _ _ (uncut d), space d, ne-eqb _ _ (m .0 .0 .1), ne-eqb _ _ (m .0 .1), ne-eqb _ _ (m .1)); allows = tt }
 
 pub head-of-spec : {M : Type 1} → statement M
 head-of-spec =

@@ -1,5 +1,5 @@
 -- `heads::order` meets its contract: its test is the definition's. Assumes nothing.
-use Rattle.heads.specs.Heads.{order-by}
+use Rattle.memory.specs.Heads.{order-by}
 use Rattle.heads.proofs.heads.order.Statement.{statement}
 use Rattle.heads.proofs.heads.order.Tie as tie
 use mathlib.Core.Path.{refl}

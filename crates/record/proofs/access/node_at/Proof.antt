@@ -1,6 +1,6 @@
 use denote.Ref.{now}
 use mathlib.Core.Path.{ap, _∙_}
-use Rattle.nodes.specs.Decoded.{node-from}
+use Rattle.memory.specs.Decoded.{node-from}
 use Rattle.record.proofs.StoredLaws.{few, node-stored}
 use borrow.Author.Needs.{needs}
 use Rattle.record.proofs.access.node_at.Statement.{statement}

@@ -1,0 +1,91 @@
+-- A byte that is none of the kinds which a match names: what its last arm knows of the byte, and that the table of kinds has no row for it.
+-- Assumes nothing.
+use mathlib.Core.Path.{_≡_, refl, sym, ap, _∙_}
+use mathlib.Core.Bool.{Bool, true, false, _&&_, false≢true}
+use mathlib.Core.List.{List, [], _∷_, _++_, map}
+use Prim.Native.Nat.{ℕ, _+_}
+use lib.Dec.{eqb}
+use lib.ListN.{drop, getD}
+use borrow.Author.Tests.{eqb-true, eqb-false, ne-eqb}
+use Rattle.paper.specs.declared.Node.the-variants.{ListEnd}
+use Rattle.paper.specs.Record.{pick, Kind, kinds, node-kind, format, name, end, unknown, announced}
+use Rattle.memory.specs.Decoded.{node-read, node-from}
+
+pub and-left : (a b : Bool) → (a && b) ≡ true → a ≡ true
+and-left true b e = refl
+and-left false b e = absurd (false≢true e)
+
+pub and-right : (a b : Bool) → (a && b) ≡ true → b ≡ true
+and-right true b e = e
+and-right false b e = absurd (false≢true e)
+
+-- ---- the kinds of nodes, by their sort
+
+abbrev pub conditions : List ℕ
+conditions = 0x10 ∷ 0x11 ∷ 0x12 ∷ 0x13 ∷ 0x14 ∷ 0x15 ∷ 0x16 ∷ 0x17 ∷ 0x18 ∷ 0x19 ∷ 0x1A ∷ 0x1B ∷ 0x1C ∷ []
+
+abbrev pub terms : List ℕ
+terms = 0x20 ∷ 0x21 ∷ 0x22 ∷ 0x23 ∷ 0x24 ∷ 0x25 ∷ 0x26 ∷ 0x27 ∷ 0x28 ∷ 0x29 ∷ 0x2A ∷ 0x2B ∷ []
+
+-- those of lists, but 0x30 that ends one
+abbrev pub cells : List ℕ
+cells = 0x31 ∷ 0x32 ∷ 0x33 ∷ []
+
+-- ---- none of some kinds
+
+unfoldable pub Away : List ℕ → ℕ → Type 0
+Away [] k = Unit {0}
+Away (i ∷ is) k = (k ≡ i → ⊥) × Away is k
+
+-- what the last arm of a `match` on these numbers knows, after `X`
+unfoldable pub Rest : List ℕ → ℕ → Type 0 → Type 0
+Rest [] k X = X
+Rest (i ∷ is) k X = Rest is k (X × (k ≡ i → ⊥))
+
+pub rest-away : (is : List ℕ) (k : ℕ) (X : Type 0) → Rest is k X → X × Away is k
+unfolding Away Rest
+rest-away [] k X m = (m, tt)
+rest-away (i ∷ is) k X m = let r = rest-away is k (X × (k ≡ i → ⊥)) m in (r .0 .0, (r .0 .1, r .1))
+
+-- all of them pass a test that the byte fails
+unfoldable pub all? : (ℕ → Bool) → List ℕ → Bool
+all? p [] = true
+all? p (i ∷ is) = p i && all? p is
+
+pub away-by : (p : ℕ → Bool) (is : List ℕ) (k : ℕ) → all? p is ≡ true → p k ≡ false → Away is k
+unfolding Away all?
+away-by p [] k s f = tt
+away-by p (i ∷ is) k s f = ((λ e. false≢true (sym f ∙ ap p e ∙ and-left (p i) (all? p is) s)), away-by p is k (and-right (p i) (all? p is) s) f)
+
+-- one kind more, which stands between others
+between : (is js : List ℕ) (i k : ℕ) → (k ≡ i → ⊥) → Away (is ++ js) k → Away (is ++ (i ∷ js)) k
+unfolding Away
+between [] js i k h a = (h, a)
+between (x ∷ is) js i k h a = (a .0, between is js i k h (a .1))
+
+pub no-kind : (rs : List Kind) (k : ℕ) → Away (map (λ (r : Kind). r .kind) rs) k → node-kind rs k ≡ unknown
+unfolding Away node-kind
+no-kind [] k a = refl
+no-kind (r ∷ rs) k a = rw (ne-eqb k (r .kind) (a .0)) (no-kind rs k (a .1))
+
+-- ---- a byte that says no more than `ListEnd`
+
+no-node : (s t u : Bool) (b : List ℕ) → node-read (pick s format (pick t name (pick u end unknown))) b ≡ ListEnd
+unfolding node-read
+no-node true t u b = refl
+no-node false true u b = refl
+no-node false false true b = refl
+no-node false false false b = refl
+
+says-end : (k : ℕ) (b : List ℕ) → Away ((conditions ++ terms) ++ cells) k → (t : Bool) → eqb k 0x30 ≡ t → node-read (announced k) b ≡ ListEnd
+unfolding node-read announced node-kind kinds
+says-end k b a true e = rw (eqb-true k 0x30 e)
+says-end k b a false e =
+    rw (no-kind kinds k (between (conditions ++ terms) cells 0x30 k (eqb-false k 0x30 e) a)) (no-node (eqb k 0x01) (eqb k 0x02) (eqb k 0x7F) b)
+
+-- a match that names every kind but 0x30
+pub last-arm : (bytes : List ℕ) (at k : ℕ) → k ≡ getD bytes at 0 → Rest ((conditions ++ terms) ++ cells) k (Unit {0}) → ListEnd ≡ node-from bytes at
+unfolding node-from
+last-arm bytes at k p m =
+    sym (says-end k (drop (at + 1) bytes) (rest-away ((conditions ++ terms) ++ cells) k (Unit {0}) m .1) (eqb k 0x30) refl)
+    ∙ ap (λ (n : ℕ). node-read (announced n) (drop (at + 1) bytes)) p

@@ -1,2 +1,0 @@
--- The node that a record's bytes say.
-pub mod Decoded

@@ -1,2 +1,0 @@
--- The laws of a new name, which the reader cites too.
-pub mod NameLaws

@@ -1,2 +1,0 @@
--- A new name over the reader's table.
-pub mod Names
