@@ -6,11 +6,10 @@ use paper::Answer;
 use paper::Arithmetic;
 use paper::Listing;
 use paper::NameNo;
-use paper::Subject;
+use writes::name_or_255;
 ghost use mathlib.Core.Path.{_≡_};
 ghost use Prim.Native.Nat.{_<_};
 ghost use lib.ListN.{length, take, drop};
-ghost use Rattle.paper.specs.TheList.{name-or-255};
 ghost use Rattle.paper.specs.Questions.{answer-numbers, arithmetic-numbers, listing-numbers, scoping, closedness, demands, arithmetic, list, list-buffer, name, name-stretch};
 ghost use Rattle.names.specs.Words.{mem};
 ghost use Rattle.noravilump.specs.Numbers.{asked, stretch};
@@ -41,15 +40,6 @@ fn told(number: u8, place: usize, name: u8) -> Asked
     }
 }
 
-fn name_number(s: Subject) -> u8
-    ensures { λ r. ⌜ r ≡ name-or-255 s ⌝ }
-{
-    match s {
-        Subject::Name(x) => x.0,
-        Subject::NoName => 255,
-    }
-}
-
 fn answered(a: Answer) -> Asked
     requires { ⌜ answer-numbers a .place < 4294967296 ⌝ }
     ensures { λ r. ⌜ r ≡ asked (answer-numbers a) ⌝ }
@@ -58,7 +48,7 @@ fn answered(a: Answer) -> Asked
         Answer::Accepted => told(0, 0, 255),
         Answer::Unmet(f) => {
             let subject = f.name;
-            told(f.rule, long(f.node.0), name_number(subject))
+            told(f.rule, long(f.node.0), name_or_255(subject))
         }
         Answer::Refused { number, offset } => told(number, offset, 255),
     }

@@ -21,7 +21,7 @@ unfolding answer-numbers
 returns-2 c =
     let known = c .before .before .before in
     c .told2 .ensures
-    ∙ ap₂ (λ (p n : ℕ). record { number = known .before .a .given .0 .0 .rule; place = p; name = n }) (c .before .before .long .ensures .0) (c .before .name-number
+    ∙ ap₂ (λ (p n : ℕ). record { number = known .before .a .given .0 .0 .rule; place = p; name = n }) (c .before .before .long .ensures .0) (c .before .name-or-255
     .ensures)
     ∙ sym (ap in-numbers (known .before .a .given .1))
 
