@@ -28,12 +28,16 @@ fn root(nodes: usize) -> NodeNo
     NodeNo((nodes - 1) as u16)
 }
 
+// A refusal is passed up unchanged. Counts are never passed on; code that cannot be reached fails shut, so they are refused.
 fn passed_answer(v: Verdict) -> Answer
     ensures { λ r. ⌜ r ≡ answer-passed v ⌝ }
 {
     match v {
         Verdict::Refused { number, offset } => Answer::Refused { number, offset },
-        _ => Answer::Accepted,
+        _ => Answer::Refused {
+            number: 1,
+            offset: 0,
+        },
     }
 }
 
@@ -42,7 +46,10 @@ fn passed_arithmetic(v: Verdict) -> Arithmetic
 {
     match v {
         Verdict::Refused { number, offset } => Arithmetic::Refused { number, offset },
-        _ => Arithmetic::No,
+        _ => Arithmetic::Refused {
+            number: 1,
+            offset: 0,
+        },
     }
 }
 
@@ -51,7 +58,10 @@ fn passed_listing(v: Verdict) -> Listing
 {
     match v {
         Verdict::Refused { number, offset } => Listing::Refused { number, offset },
-        _ => Listing::Listed(0),
+        _ => Listing::Refused {
+            number: 1,
+            offset: 0,
+        },
     }
 }
 
