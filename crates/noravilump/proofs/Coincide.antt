@@ -1,10 +1,10 @@
--- Two answers that a contract of the C face allows coincide, over what the toolchain makes of each `ensures`. Assumes nothing.
+-- Two answers that a contract of the C face allows coincide, and any bytes may be asked about, over what the toolchain makes of each contract. Assumes nothing.
 use mathlib.Core.Path.{_≡_, sym, _∙_}
 use mathlib.Core.List.{List}
 use Prim.Native.Nat.{ℕ}
 use denote.Ref.{now}
-use Rattle.questions.proofs.Coincide.{Decides}
-use Rattle.noravilump.specs.declared.Asked.{Asked}
+use Rattle.questions.proofs.Coincide.{Decides, AsksNothing}
+use Rattle.numbers.specs.declared.Asked.{Asked}
 use Rattle.noravilump.specs.declared.Stretch.{Stretch}
 use Rattle.noravilump.proofs.noravilump_scoping.Reads as scoping
 use Rattle.noravilump.proofs.noravilump_scoping.Kinds as of-scoping
@@ -40,3 +40,23 @@ buffer-coincides κs a x y e f p q = p .1 ∙ sym (q .1)
 
 pub name-coincides : Decides 1 of-name.ps of-name.r name.Post Stretch (λ κs x e. x)
 name-coincides κs a x y e f p q = p .0 ∙ sym (q .0)
+
+-- ---- any bytes may be asked about
+
+pub scoping-of-any : AsksNothing 1 of-scoping.ps scoping.Asked
+scoping-of-any κs a = tt
+
+pub closedness-of-any : AsksNothing 1 of-closedness.ps closedness.Asked
+closedness-of-any κs a = tt
+
+pub demands-of-any : AsksNothing 1 of-demands.ps demands.Asked
+demands-of-any κs a = tt
+
+pub arithmetic-of-any : AsksNothing 1 of-arithmetic.ps arithmetic.Asked
+arithmetic-of-any κs a = tt
+
+pub list-of-any : AsksNothing 2 of-list.ps list.Asked
+list-of-any κs a = tt
+
+pub name-of-any : AsksNothing 1 of-name.ps name.Asked
+name-of-any κs a = tt

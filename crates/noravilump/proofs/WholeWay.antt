@@ -12,7 +12,7 @@ use Rattle.paper.specs.declared.Listing.{Listing}
 use Rattle.paper.specs.TurnedAway.{Contents, accepted, read}
 use Rattle.paper.specs.Questions.{listing-numbers, list}
 use Rattle.questions.proofs.WholeWay.{WholeWay, whole-way}
-use Rattle.noravilump.specs.Numbers.{asked}
+use Rattle.numbers.specs.Numbers.{asked}
 use Rattle.noravilump.proofs.noravilump_list.Reads as c-list
 use Rattle.noravilump.proofs.noravilump_list.Kinds as of-list
 

@@ -1,12 +1,12 @@
--- Document 01, 'How far each promise goes': two answers that a contract allows coincide. `Post` is what the toolchain makes of a function's `ensures`, so a
--- contract that is weakened is refused here. Assumes nothing.
+-- Document 01, 'How far each promise goes': two answers that a contract allows coincide, and any bytes may be asked about. `Post` is what the toolchain makes
+-- of a function's `ensures`, and `Asked` of its `requires`, so a contract that is weakened is refused here. Assumes nothing.
 use mathlib.Core.Path.{_≡_, sym, _∙_}
 use mathlib.Core.List.{List}
 use Prim.Native.Nat.{ℕ}
 use contract.Lifetimes.{Lfts}
 use denote.Ref.{now}
 use denote.Triple.Clauses.{AtExit}
-use borrow.Fn.Kinds.{PK, RK, Out, Dens, resT, endedOf}
+use borrow.Fn.Kinds.{PK, RK, In, Out, Dens, resT, endedOf}
 use Rattle.paper.specs.declared.Verdict.{Verdict}
 use Rattle.paper.specs.declared.Answer.{Answer}
 use Rattle.paper.specs.declared.Arithmetic.{Arithmetic}
@@ -56,3 +56,29 @@ verdict-coincides κs a x y e f p q = p .said ∙ sym (q .said)
 -- the bytes of the name
 pub name-coincides : Decides 1 of-name.ps of-name.r name.Post (List ℕ) (λ κs x e. now x)
 name-coincides κs a x y e f p q = p ∙ sym q
+
+-- ---- any bytes may be asked about, with any seed and any buffer: a contract that asks something of its caller is weaker too
+
+abbrev pub AsksNothing : (n : ℕ) (ps : List (PK n)) → In n ps → Type 0
+AsksNothing n ps Asked = (κs : Lfts n) (a : Dens κs ps) → Asked κs a
+
+pub scoping-of-any : AsksNothing 1 of-scoping.ps scoping.Asked
+scoping-of-any κs a = tt
+
+pub closedness-of-any : AsksNothing 1 of-closedness.ps closedness.Asked
+closedness-of-any κs a = tt
+
+pub demands-of-any : AsksNothing 1 of-demands.ps demands.Asked
+demands-of-any κs a = tt
+
+pub arithmetic-of-any : AsksNothing 1 of-arithmetic.ps arithmetic.Asked
+arithmetic-of-any κs a = tt
+
+pub list-of-any : AsksNothing 2 of-list.ps list.Asked
+list-of-any κs a = tt
+
+pub reader-of-any : AsksNothing 1 of-reader.ps reader.Asked
+reader-of-any κs a = tt
+
+pub name-of-any : AsksNothing 1 of-name.ps name.Asked
+name-of-any κs a = tt
