@@ -1,2 +1,2 @@
--- Answers and stretches as the structs of the C face.
-pub mod Numbers
+-- A name's stretch as the struct of the C face.
+pub mod Stretched

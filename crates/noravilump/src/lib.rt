@@ -1,67 +1,23 @@
 // The C face: the questions, the list and the name lookup for a program in another language, in document 01's numbers. include/noravilump.h says the same in C.
 use names::Names;
-use octets::long;
+use numbers::Asked;
+use numbers::answered;
+use numbers::listed;
+use numbers::yes_or_no;
 use octets::wide;
-use paper::Answer;
-use paper::Arithmetic;
-use paper::Listing;
 use paper::NameNo;
-use paper::Subject;
 ghost use mathlib.Core.Path.{_≡_};
-ghost use Prim.Native.Nat.{_<_};
 ghost use lib.ListN.{length, take, drop};
-ghost use Rattle.paper.specs.TheList.{name-or-255};
 ghost use Rattle.paper.specs.Questions.{answer-numbers, arithmetic-numbers, listing-numbers, scoping, closedness, demands, arithmetic, list, list-buffer, name, name-stretch};
 ghost use Rattle.names.specs.Words.{mem};
-ghost use Rattle.noravilump.specs.Numbers.{asked, stretch};
-
-// Document 01's numbers for an answer: a number, a place and a name.
-#[repr(C)]
-pub struct Asked {
-    pub number: u32,
-    pub place: u32,
-    pub name: u32,
-}
+ghost use Rattle.numbers.specs.Numbers.{asked};
+ghost use Rattle.noravilump.specs.Stretched.{stretch};
 
 // Where a name begins in the record, and how many bytes it has.
 #[repr(C)]
 pub struct Stretch {
     pub at: usize,
     pub len: usize,
-}
-
-fn told(number: u8, place: usize, name: u8) -> Asked
-    requires { ⌜ place < 4294967296 ⌝ }
-    ensures { λ r. ⌜ r ≡ record { number = number; place = place; name = name } ⌝ }
-{
-    Asked {
-        number: number as u32,
-        place: place as u32,
-        name: name as u32,
-    }
-}
-
-fn name_number(s: Subject) -> u8
-    ensures { λ r. ⌜ r ≡ name-or-255 s ⌝ }
-{
-    match s {
-        Subject::Name(x) => x.0,
-        Subject::NoName => 255,
-    }
-}
-
-fn answered(a: Answer) -> Asked
-    requires { ⌜ answer-numbers a .place < 4294967296 ⌝ }
-    ensures { λ r. ⌜ r ≡ asked (answer-numbers a) ⌝ }
-{
-    match a {
-        Answer::Accepted => told(0, 0, 255),
-        Answer::Unmet(f) => {
-            let subject = f.name;
-            told(f.rule, long(f.node.0), name_number(subject))
-        }
-        Answer::Refused { number, offset } => told(number, offset, 255),
-    }
 }
 
 #[no_mangle]
@@ -89,34 +45,12 @@ pub extern "C" fn noravilump_demands(bytes: &[u8]) -> Asked
     answered(a)
 }
 
-fn yes_or_no(a: Arithmetic) -> Asked
-    requires { ⌜ arithmetic-numbers a .place < 4294967296 ⌝ }
-    ensures { λ r. ⌜ r ≡ asked (arithmetic-numbers a) ⌝ }
-{
-    match a {
-        Arithmetic::Yes => told(40, 0, 255),
-        Arithmetic::No => told(0, 0, 255),
-        Arithmetic::Refused { number, offset } => told(number, offset, 255),
-    }
-}
-
 #[no_mangle]
 pub extern "C" fn noravilump_arithmetic(bytes: &[u8]) -> Asked
     ensures { λ r. ⌜ r ≡ asked (arithmetic-numbers (arithmetic (now (bytes .entry)))) ⌝ }
 {
     let a = questions::arithmetic(bytes);
     yes_or_no(a)
-}
-
-fn listed(l: Listing) -> Asked
-    requires { ⌜ listing-numbers l .place < 4294967296 ⌝ }
-    ensures { λ r. ⌜ r ≡ asked (listing-numbers l) ⌝ }
-{
-    match l {
-        Listing::Listed(count) => told(0, count, 255),
-        Listing::NoRoom(needed) => told(50, needed, 255),
-        Listing::Refused { number, offset } => told(number, offset, 255),
-    }
 }
 
 #[no_mangle]

@@ -7,23 +7,16 @@ use names::empty;
 use octets::tail;
 use paper::Answer;
 use paper::Arithmetic;
-use paper::Subject;
 use questions::arithmetic;
 use questions::closedness;
 use questions::demands;
 use questions::scoping;
 use stored::Said;
 use tally::Run;
+use writes::name_or_255;
 ghost use Prim.Native.Nat.{_<_};
 
 const NO_NAME: u8 = 255;
-
-fn name_said(s: Subject) -> u8 {
-    match s {
-        Subject::Name(n) => n.0,
-        Subject::NoName => NO_NAME,
-    }
-}
 
 // A refusal has its own number, which no stored answer has: every stored record is an accepted one.
 fn said(a: Answer) -> Said {
@@ -36,7 +29,7 @@ fn said(a: Answer) -> Said {
             let subject = f.name;
             Said {
                 rule: f.rule,
-                name: name_said(subject),
+                name: name_or_255(subject),
             }
         }
         Answer::Refused { number, offset: _ } => Said {

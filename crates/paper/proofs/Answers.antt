@@ -1,5 +1,5 @@
 -- What the answers of the questions say. A check accepts exactly when its part of the list is empty, and else refuses with the part's first entry; the list is
--- the three parts, and no other list holds exactly what is unmet; a contract allows one answer only; and what the list's answer says of the lent buffer.
+-- the three parts, and no other list holds exactly what is unmet; and what the list's answer says of the lent buffer.
 -- Assumes nothing.
 use mathlib.Core.Path.{_≡_, refl, sym, ap, ap₂, _∙_, subst}
 use mathlib.Core.Logic.{_↔_}
@@ -12,20 +12,18 @@ use lib.ListN.{length, take, drop, length-append, length-drop, take-append-drop}
 use store.Seg.{take-pre, drop-pre}
 use borrow.Author.Tests.{leb-true, leb-false, le-leb}
 use Rattle.paper.specs.declared.Finding.{Finding}
-use Rattle.paper.specs.declared.Verdict.{Verdict}
 use Rattle.paper.specs.declared.Answer.{Answer}
 use Rattle.paper.specs.declared.Answer.the-variants as answer
-use Rattle.paper.specs.declared.Arithmetic.{Arithmetic}
 use Rattle.paper.specs.declared.Listing.{Listing}
 use Rattle.paper.specs.declared.Listing.the-variants as listing
 use Rattle.paper.specs.Sets.{Set, none}
 use Rattle.paper.specs.Record.{pick}
-use Rattle.paper.specs.TurnedAway.{Contents, Outcome, refused, accepted, verdict, read}
+use Rattle.paper.specs.TurnedAway.{Contents, Outcome, refused, accepted, read}
 use Rattle.paper.specs.Places.{Exactly}
 use Rattle.paper.specs.Scoping.{ScopingUnmet, scoping-part}
 use Rattle.paper.specs.Demands.{ClosednessUnmet, closedness-part, DemandUnmet, demands-part}
 use Rattle.paper.specs.TheList.{the-list, packed}
-use Rattle.paper.specs.Questions.{first, answered, scoping, closedness, demands, arithmetic, listing-of, list, buffer-of, list-buffer, name, Stretch, name-stretch}
+use Rattle.paper.specs.Questions.{first, answered, scoping, closedness, demands, listing-of, list, buffer-of, list-buffer}
 use Rattle.paper.proofs.Ascending.{exactly-one}
 use Rattle.paper.proofs.Walks.{nil-cons}
 use Rattle.paper.proofs.Exact.{scoping-exact, closedness-exact, demands-exact}
@@ -155,42 +153,6 @@ list-only c l e =
 -- no number stands twice in what is written
 pub list-once : (bytes : List ℕ) (c : Contents) → read bytes ≡ accepted c → Distinct (packed c)
 list-once bytes c e = once-each c (well-formed bytes c e)
-
--- ---- "two answers allowed by it coincide"
-
-abbrev pub Decides : {A : Type 0} → (A → Type 0) → Type 0
-Decides {A} Allowed = (a b : A) → Allowed a → Allowed b → a ≡ b
-
-pub decided : {A : Type 0} (said : A) → Decides (λ a. a ≡ said)
-decided said a b p q = p ∙ sym q
-
-pub verdict-decided : (bytes : List ℕ) → Decides (λ (r : Verdict). r ≡ verdict (read bytes))
-verdict-decided bytes = decided (verdict (read bytes))
-
-pub scoping-decided : (bytes : List ℕ) (seed : Set) → Decides (λ (r : Answer). r ≡ scoping bytes seed)
-scoping-decided bytes seed = decided (scoping bytes seed)
-
-pub closedness-decided : (bytes : List ℕ) → Decides (λ (r : Answer). r ≡ closedness bytes)
-closedness-decided bytes = decided (closedness bytes)
-
-pub demands-decided : (bytes : List ℕ) → Decides (λ (r : Answer). r ≡ demands bytes)
-demands-decided bytes = decided (demands bytes)
-
-pub arithmetic-decided : (bytes : List ℕ) → Decides (λ (r : Arithmetic). r ≡ arithmetic bytes)
-arithmetic-decided bytes = decided (arithmetic bytes)
-
-pub name-decided : (bytes : List ℕ) (x : ℕ) → Decides (λ (n : List ℕ). n ≡ name bytes x)
-name-decided bytes x = decided (name bytes x)
-
-pub stretch-decided : (bytes : List ℕ) (x : ℕ) → Decides (λ (s : Stretch). s ≡ name-stretch bytes x)
-stretch-decided bytes x = decided (name-stretch bytes x)
-
--- the result and what the buffer holds afterwards, together
-pub list-decided : (bytes before : List ℕ)
-    → Decides (λ (r : Listing × List ℕ). (r .0 ≡ list bytes (length before)) × (r .1 ≡ list-buffer bytes before))
-list-decided bytes before a b p q =
-    ap₂ {C = Listing × List ℕ} (λ (x : Listing) (y : List ℕ). (x, y)) (decided (list bytes (length before)) (a .0) (b .0) (p .0) (q .0))
-    (decided (list-buffer bytes before) (a .1) (b .1) (p .1) (q .1))
 
 -- ---- the list's answer and the lent buffer
 

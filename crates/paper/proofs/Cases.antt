@@ -3,18 +3,21 @@
 -- oracle/cases.txt too, where the Rust is run on them. Assumes nothing.
 use Prim.Native.Nat.{ℕ, zero, suc, _+_, _*_, _/_, _%_}
 use Prim.Native.String.{String}
-use mathlib.Core.Path.{_≡_, refl}
+use mathlib.Core.Path.{_≡_, refl, ap}
 use mathlib.Core.List.{List, [], _∷_, _++_, map}
-use lib.ListN.{length, take, replicate}
+use lib.ListN.{length, take, getD, replicate}
+use Rattle.paper.specs.declared.Subject.the-variants.{Name}
+use Rattle.paper.specs.declared.Answer.{Answer}
+use Rattle.paper.specs.declared.Answer.the-variants.{Accepted, Unmet}
 use Rattle.paper.specs.declared.Arithmetic.{Arithmetic}
 use Rattle.paper.specs.declared.Arithmetic.the-variants.{Yes, No}
 use Rattle.paper.specs.declared.Listing.{Listing}
 use Rattle.paper.specs.declared.Listing.the-variants.{Listed}
 use Rattle.paper.specs.declared.Verdict.{Verdict}
-use Rattle.paper.specs.declared.Verdict.the-variants.{Refused}
+use Rattle.paper.specs.declared.Verdict.the-variants.{Counts, Refused}
 use Rattle.paper.specs.Sets.{none, only, _∪_, _∩_, _∖_, outside, all-below, members}
 use Rattle.paper.specs.Record.{Kind, zeros, name-rest, is-name, precedes, fits, field-bytes, body-length, two-bytes, value, values, slot-of, kinds, node-kind}
-use Rattle.paper.specs.Record.{announced, body-bytes, ascii}
+use Rattle.paper.specs.Record.{announced, body-bytes, ascii, node-no, name-no}
 use Rattle.paper.specs.TurnedAway.{verdict, nothing-read, in-order, full, refer, in-range, check, check-all, check-depth, read-format, last-name, read-name}
 use Rattle.paper.specs.TurnedAway.{add-node, read-node, read-end, read-body, read-record, read-on, read}
 use Rattle.paper.specs.Tree.{as-condition, as-term, as-arguments, as-items, as-binders, planted, trees, tree-at, root-no, root, size, term-size, arguments-size}
@@ -24,8 +27,8 @@ use Rattle.paper.specs.FreeAndRestricted.{ties, equality, tied, tied-nam
 use Rattle.paper.specs.Places.{gather, at-cell, findings, spot-size, found-within, found}
 use Rattle.paper.specs.Scoping.{is-word, is-reserved, reserved, binder-sigil, cell-of, cells, scope-below, scope-broken, scoping-part}
 use Rattle.paper.specs.Demands.{closedness-broken, closedness-part, demands-part, demand-below, demand-broken, has-arith, operand-arith}
-use Rattle.paper.specs.TheList.{the-list, name-or-255, pack, packed}
-use Rattle.paper.specs.Questions.{arithmetic-of, arithmetic, listing-of, list, buffer-of, list-buffer}
+use Rattle.paper.specs.TheList.{the-list, name-or-255, pack, packed, trimmed, name-text}
+use Rattle.paper.specs.Questions.{first, answered, scoping, closedness, demands, arithmetic-of, arithmetic, listing-of, list, buffer-of, list-buffer, name-of, name}
 
 -- ---- the cases, as bytes
 
@@ -267,3 +270,62 @@ pub body-lengths : map (λ (r : Kind). body-length (r .body)) kinds
     ≡ (4 ∷ 4 ∷ 2 ∷ 4 ∷ 4 ∷ 6 ∷ 5 ∷ 5 ∷ 4 ∷ 4 ∷ 2 ∷ 2 ∷ 2 ∷ 1 ∷ 0 ∷ 2 ∷ 2 ∷ 2 ∷ 1 ∷ 1 ∷ 2 ∷ 5 ∷ 6 ∷ 4 ∷ 2 ∷ 0 ∷ 6 ∷ 4 ∷ 5 ∷ [])
 unfolding computed
 body-lengths = refl
+
+-- ---- what single cases are answered, for whoever shuts out a wrong version by them
+
+abbrev pub unmet : ℕ → ℕ → ℕ → Answer
+unmet rule node name = Unmet (record { rule = rule; node = node-no node; name = Name (name-no name) })
+
+pub scoping-b : scoping case-b none ≡ Accepted
+unfolding computed scoping answered first
+scoping-b = refl
+
+pub scoping-f : scoping case-f none ≡ unmet 24 8 0
+unfolding computed scoping answered first
+scoping-f = refl
+
+pub closedness-b : closedness case-b ≡ Accepted
+unfolding computed closedness answered first
+closedness-b = refl
+
+pub closedness-full : closedness case-full ≡ unmet 28 8 1
+unfolding computed closedness answered first
+closedness-full = refl
+
+pub demands-b : demands case-b ≡ Accepted
+unfolding computed demands answered first
+demands-b = refl
+
+pub demands-full : demands case-full ≡ unmet 31 2 1
+unfolding computed demands answered first
+demands-full = refl
+
+pub verdict-b : verdict (read case-b) ≡ Counts 1 7
+unfolding computed
+verdict-b = refl
+
+pub name-b : name case-b 0 ≡ ascii "x"
+unfolding computed name name-of name-text trimmed
+name-b = refl
+
+-- the buffer of six entries that the cases lend
+abbrev pub lent : List ℕ
+lent = replicate 6 7
+
+-- what the list and the arithmetic test answer, from the claim
+pub as-told : (bytes : List ℕ) (t : Told) → told bytes ≡ t
+    → (list bytes 6 ≡ t .listing) × (list-buffer bytes lent ≡ t .buffer) × (arithmetic bytes ≡ t .arith)
+unfolding told
+as-told bytes t e = (ap (λ (z : Told). z .listing) e, ap (λ (z : Told). z .buffer) e, ap (λ (z : Told). z .arith) e)
+
+pub told-b : told case-b ≡ finds [] (7 ∷ 7 ∷ 7 ∷ 7 ∷ 7 ∷ 7 ∷ []) No
+told-b = ap (λ (l : List Told). getD l 1 (told [])) cases
+
+pub told-c : told case-c ≡ finds (at 30 4 0 ∷ []) (7 ∷ 7 ∷ 7 ∷ 7 ∷ 7 ∷ []) Yes
+told-c = ap (λ (l : List Told). getD l 2 (told [])) cases
+
+pub told-f : told case-f ≡ finds (at 24 8 0 ∷ at 25 8 0 ∷ at 28 10 0 ∷ at 31 10 0 ∷ []) (7 ∷ 7 ∷ []) No
+told-f = ap (λ (l : List Told). getD l 5 (told [])) cases
+
+pub told-full : told case-full ≡ finds (469764097 ∷ 520094209 ∷ []) (7 ∷ 7 ∷ 7 ∷ 7 ∷ []) No
+told-full = ap (λ (l : List Told). getD l 12 (told [])) cases

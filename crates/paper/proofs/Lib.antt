@@ -23,4 +23,3 @@ pub mod Seed
 pub mod Once
 pub mod Parts
 pub mod Answers
-pub mod ShutOut

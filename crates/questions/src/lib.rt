@@ -1,59 +1,17 @@
 // The public questions. Any bytes may be asked about.
-use checks::arith::condition_has_arith;
-use listing::demand_entries;
-use listing::list_entries;
-use listing::open_entries;
-use listing::scoping_entries;
 use names::Names;
 use paper::Answer;
 use paper::Arithmetic;
 use paper::Listing;
-use paper::NodeNo;
 use paper::Verdict;
 use record::reader::read;
-use writes::first;
+use refusals::passed_answer;
+use refusals::passed_arithmetic;
+use refusals::passed_listing;
 ghost use mathlib.Core.Path.{_≡_};
 ghost use lib.ListN.{length};
-ghost use Prim.Native.Nat.{_-_, _<_, _≤_};
-ghost use Rattle.paper.specs.Record.{node-no};
 ghost use Rattle.paper.specs.Questions.{scoping as scoping-answer, closedness as closedness-answer, demands as demands-answer, arithmetic as arithmetic-answer, list as list-answer, list-buffer};
 ghost use Rattle.names.specs.Words.{mem};
-ghost use Rattle.questions.specs.Passed.{answer-passed, arithmetic-passed, listing-passed};
-
-// The last node.
-fn root(nodes: usize) -> NodeNo
-    requires { ⌜ (0 < nodes) × (nodes ≤ 512) ⌝ }
-    ensures { λ r. ⌜ r ≡ node-no (nodes - 1) ⌝ }
-{
-    NodeNo((nodes - 1) as u16)
-}
-
-fn passed_answer(v: Verdict) -> Answer
-    ensures { λ r. ⌜ r ≡ answer-passed v ⌝ }
-{
-    match v {
-        Verdict::Refused { number, offset } => Answer::Refused { number, offset },
-        _ => Answer::Accepted,
-    }
-}
-
-fn passed_arithmetic(v: Verdict) -> Arithmetic
-    ensures { λ r. ⌜ r ≡ arithmetic-passed v ⌝ }
-{
-    match v {
-        Verdict::Refused { number, offset } => Arithmetic::Refused { number, offset },
-        _ => Arithmetic::No,
-    }
-}
-
-fn passed_listing(v: Verdict) -> Listing
-    ensures { λ r. ⌜ r ≡ listing-passed v ⌝ }
-{
-    match v {
-        Verdict::Refused { number, offset } => Listing::Refused { number, offset },
-        _ => Listing::Listed(0),
-    }
-}
 
 // A refusal of the reader; the first entry of 20 to 27 where the seed's names are in scope; or accepted.
 pub fn scoping(bytes: &[u8], seed: Names) -> Answer
@@ -64,10 +22,8 @@ pub fn scoping(bytes: &[u8], seed: Names) -> Answer
     let Verdict::Counts { names: _, nodes } = v else {
         return passed_answer(v);
     };
-    let mut one = [0u32; 1];
     let words = r.arena.reserved;
-    let count = scoping_entries(bytes, &r.arena.starts, root(nodes), seed, words, &mut one);
-    first(count, one[0])
+    accepted::scoping(bytes, &r.arena.starts, nodes, seed, words)
 }
 
 // A refusal of the reader; the first entry of 28; or accepted.
@@ -79,9 +35,7 @@ pub fn closedness(bytes: &[u8]) -> Answer
     let Verdict::Counts { names: _, nodes } = v else {
         return passed_answer(v);
     };
-    let mut one = [0u32; 1];
-    let open = open_entries(bytes, &r.arena.starts, root(nodes), &mut one);
-    first(open, one[0])
+    accepted::closedness(bytes, &r.arena.starts, nodes)
 }
 
 // A refusal of the reader; the first entry of 30 to 32; or accepted.
@@ -93,9 +47,7 @@ pub fn demands(bytes: &[u8]) -> Answer
     let Verdict::Counts { names: _, nodes } = v else {
         return passed_answer(v);
     };
-    let mut one = [0u32; 1];
-    let owed = demand_entries(bytes, &r.arena.starts, root(nodes), &mut one);
-    first(owed, one[0])
+    accepted::demands(bytes, &r.arena.starts, nodes)
 }
 
 // A refusal of the reader; or whether arithmetic is an operand of a comparison.
@@ -107,10 +59,7 @@ pub fn arithmetic(bytes: &[u8]) -> Arithmetic
     let Verdict::Counts { names: _, nodes } = v else {
         return passed_arithmetic(v);
     };
-    if condition_has_arith(bytes, &r.arena.starts, root(nodes)) {
-        return Arithmetic::Yes;
-    }
-    Arithmetic::No
+    accepted::arithmetic(bytes, &r.arena.starts, nodes)
 }
 
 // A refusal of the reader; the entries needed, where the buffer has fewer; or the list, in the first entries of the buffer, and its length.
@@ -122,11 +71,6 @@ pub fn list(bytes: &[u8], out: &mut [u32]) -> Listing
     let Verdict::Counts { names: _, nodes } = v else {
         return passed_listing(v);
     };
-    let room = out.len();
     let words = r.arena.reserved;
-    let count = list_entries(bytes, &r.arena.starts, root(nodes), words, out);
-    if room < count {
-        return Listing::NoRoom(count);
-    }
-    Listing::Listed(count)
+    accepted::list(bytes, &r.arena.starts, nodes, words, out)
 }

@@ -13,7 +13,8 @@ ghost use Rattle.paper.specs.Places.{for-names, findings};
 ghost use Rattle.names.specs.Words.{mem};
 ghost use Rattle.writes.specs.Written.{Room, Wrote, entry-for, answer-of};
 
-fn name_or_255(s: Subject) -> u8
+// A name as document 01's number: 255 is none.
+pub fn name_or_255(s: Subject) -> u8
     ensures { λ r. ⌜ r ≡ name-or-255 s ⌝ }
 {
     match s {

@@ -3,8 +3,8 @@ use mathlib.Core.Path.{ap, _∙_}
 use borrow.Author.Needs.{needs}
 use Rattle.paper.specs.declared.Arithmetic.{Arithmetic}
 use Rattle.paper.specs.Questions.{arithmetic-numbers}
-use Rattle.noravilump.specs.Numbers.{asked}
-use Rattle.noravilump.proofs.Places.{arithmetic-fits}
+use Rattle.numbers.specs.Numbers.{asked}
+use Rattle.numbers.proofs.Places.{arithmetic-fits}
 use Rattle.noravilump.proofs.noravilump_arithmetic.Statement.{statement}
 use Rattle.noravilump.proofs.noravilump_arithmetic.Tie as tie
 

@@ -3,8 +3,8 @@ use mathlib.Core.Path.{ap, _∙_}
 use borrow.Author.Needs.{needs}
 use Rattle.paper.specs.declared.Listing.{Listing}
 use Rattle.paper.specs.Questions.{listing-numbers}
-use Rattle.noravilump.specs.Numbers.{asked}
-use Rattle.noravilump.proofs.Places.{list-fits}
+use Rattle.numbers.specs.Numbers.{asked}
+use Rattle.numbers.proofs.Places.{list-fits}
 use Rattle.noravilump.proofs.noravilump_list.Statement.{statement}
 use Rattle.noravilump.proofs.noravilump_list.Tie as tie
 

@@ -5,7 +5,7 @@ use native.Mathlib.Omega.{arith}
 use denote.Ref.{now}
 use lib.ListN.{length, take, drop}
 use borrow.Author.Needs.{needs}
-use Rattle.noravilump.specs.Numbers.{stretch}
+use Rattle.noravilump.specs.Stretched.{stretch}
 use Rattle.noravilump.proofs.Stretches.{stretch-known, stretch-unknown, stretch-holds, stretch-empty}
 use Rattle.noravilump.proofs.noravilump_name.Statement.{statement}
 use Rattle.noravilump.proofs.noravilump_name.Tie as tie

@@ -3,8 +3,8 @@ use mathlib.Core.Path.{ap, _∙_}
 use borrow.Author.Needs.{needs}
 use Rattle.paper.specs.declared.Answer.{Answer}
 use Rattle.paper.specs.Questions.{answer-numbers}
-use Rattle.noravilump.specs.Numbers.{asked}
-use Rattle.noravilump.proofs.Places.{scoping-fits}
+use Rattle.numbers.specs.Numbers.{asked}
+use Rattle.numbers.proofs.Places.{scoping-fits}
 use Rattle.noravilump.proofs.noravilump_scoping.Statement.{statement}
 use Rattle.noravilump.proofs.noravilump_scoping.Tie as tie
 

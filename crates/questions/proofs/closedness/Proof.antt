@@ -1,8 +1,8 @@
 -- `closedness` answers as the definitions do, for all bytes.
 use mathlib.Core.Path.{sym, ap, _∙_}
 use borrow.Author.Needs.{needs}
-use Rattle.questions.specs.Passed.{answer-passed}
-use Rattle.questions.proofs.Asked.{closedness-refused, some-root, last-root, closedness-room, closedness-told}
+use Rattle.refusals.specs.Passed.{answer-passed}
+use Rattle.questions.proofs.ByVerdict.{closedness-refused, ready}
 use Rattle.questions.proofs.closedness.Statement.{statement}
 use Rattle.questions.proofs.closedness.Tie as tie
 
@@ -12,11 +12,10 @@ returns c =
     let refusal = c .before .enum-told .given .1 in
     c .passed-answer .ensures ∙ ap answer-passed refusal ∙ sym (closedness-refused _ _ (c .before .before .before .read .ensures) refusal)
 
-returns-2 : tie.Need-returns-2
-returns-2 c =
-    c .first .ensures ∙ closedness-told _ _ (c .before .before .before .before .before .before .before .before .before .before .read .ensures) (c .before
-    .before .before .before .before .before .before .before .v .given .1) _ (c .before .before .before .before .root .ensures) (c .before .before .open-entries
-    .ensures)
+closedness-requires : tie.Need-closedness-requires
+closedness-requires c κs =
+    let v = c .before .before .before in
+    ready _ _ (v .before .before .read .ensures) (v .v .given .1)
 
 pub closedness-spec : {M : Type 1} → statement M
 closedness-spec =
@@ -27,14 +26,5 @@ closedness-spec =
     (λ c. search needs)
     (λ c κs. search needs)
     returns
-    (λ c κs. some-root _ _ (c .before .before .before .before .before .read .ensures) (c .before .before .before .v .given .1))
-    (λ c. search needs)
-    (λ c κs. (
-      last-root _ _ (c .before .before .before .before .before .before .before .read .ensures) (c .before .before .before .before .before .v .given .1) _
-          (c .before .root .ensures),
-      closedness-room _ _ (c .before .before .before .before .before .before .before .read .ensures) (c .before .before .before
-          .before .before .v .given .1) _ (c .before .root .ensures),
-    ))
-    (λ c. search needs)
-    (λ c κs. search needs)
-    returns-2)
+    closedness-requires
+    (λ c. c .closedness .ensures))

@@ -1,8 +1,8 @@
 -- `demands` answers as the definitions do, for all bytes.
 use mathlib.Core.Path.{sym, ap, _∙_}
 use borrow.Author.Needs.{needs}
-use Rattle.questions.specs.Passed.{answer-passed}
-use Rattle.questions.proofs.Asked.{demands-refused, some-root, last-root, demands-room, demands-told}
+use Rattle.refusals.specs.Passed.{answer-passed}
+use Rattle.questions.proofs.ByVerdict.{demands-refused, ready}
 use Rattle.questions.proofs.demands.Statement.{statement}
 use Rattle.questions.proofs.demands.Tie as tie
 
@@ -12,10 +12,10 @@ returns c =
     let refusal = c .before .enum-told .given .1 in
     c .passed-answer .ensures ∙ ap answer-passed refusal ∙ sym (demands-refused _ _ (c .before .before .before .read .ensures) refusal)
 
-returns-2 : tie.Need-returns-2
-returns-2 c =
-    c .first .ensures ∙ demands-told _ _ (c .before .before .before .before .before .before .before .before .before .before .read .ensures) (c .before .before
-    .before .before .before .before .before .before .v .given .1) _ (c .before .before .before .before .root .ensures) (c .before .before .demand-entries .ensures)
+demands-requires : tie.Need-demands-requires
+demands-requires c κs =
+    let v = c .before .before .before in
+    ready _ _ (v .before .before .read .ensures) (v .v .given .1)
 
 pub demands-spec : {M : Type 1} → statement M
 demands-spec =
@@ -26,14 +26,5 @@ demands-spec =
     (λ c. search needs)
     (λ c κs. search needs)
     returns
-    (λ c κs. some-root _ _ (c .before .before .before .before .before .read .ensures) (c .before .before .before .v .given .1))
-    (λ c. search needs)
-    (λ c κs. (
-      last-root _ _ (c .before .before .before .before .before .before .before .read .ensures) (c .before .before .before .before .before .v .given .1) _
-          (c .before .root .ensures),
-      demands-room _ _ (c .before .before .before .before .before .before .before .read .ensures) (c .before .before .before
-          .before .before .v .given .1) _ (c .before .root .ensures),
-    ))
-    (λ c. search needs)
-    (λ c κs. search needs)
-    returns-2)
+    demands-requires
+    (λ c. c .demands .ensures))

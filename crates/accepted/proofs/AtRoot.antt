@@ -1,0 +1,151 @@
+-- Each question's answer to accepted bytes, from what stands at the root: what a walk from there writes is the part of the definitions, and there is room to
+-- count it. Assumes nothing.
+use mathlib.Core.Path.{_≡_, sym, ap, ap₂, _∙_}
+use mathlib.Core.List.{List, [], _∷_, _++_}
+use Prim.Native.Nat.{ℕ, _-_, _<_, _≤_}
+use lib.ListN.{length, length-map, getD}
+use borrow.Author.Tests.{le-leb, lt-leb}
+use native.Mathlib.Omega.{arith}
+use Rattle.paper.specs.declared.NodeNo.{NodeNo}
+use Rattle.paper.specs.declared.Finding.{Finding}
+use Rattle.names.specs.declared.Names.{Names}
+use Rattle.paper.specs.declared.Answer.the-variants as answer
+use Rattle.paper.specs.declared.Arithmetic.the-variants as arith
+use Rattle.paper.specs.declared.Listing.the-variants as listing
+use Rattle.paper.specs.Record.{pick, node-no}
+use Rattle.paper.specs.TurnedAway.{read}
+use Rattle.paper.specs.Sets.{Set, none}
+use Rattle.paper.specs.Tree.{root-no, root}
+use Rattle.paper.specs.FreeAndRestricted.{free}
+use Rattle.paper.specs.Places.{condition, for-names, findings}
+use Rattle.paper.specs.Scoping.{scoping-part}
+use Rattle.paper.specs.Demands.{closedness-broken, closedness-part, demands-part, has-arith}
+use Rattle.paper.specs.TheList.{the-list, pack, packed}
+use Rattle.paper.specs.Questions.{answered, scoping, closedness, demands, arithmetic-of, arithmetic, listing-of, list, buffer-of, list-buffer}
+use Rattle.paper.proofs.Lengths.{scoping-length, closedness-length, demands-length, list-length}
+use Rattle.paper.proofs.Fitting.{scoping-fits, closedness-fits, demands-fits}
+use Rattle.names.specs.Words.{mem}
+use Rattle.record.specs.Stored.{contents, Has}
+use Rattle.record.proofs.Verdicts.{Told, counts-are}
+use Rattle.trees.specs.Trees.{condition-of}
+use Rattle.writes.specs.Written.{Room, Wrote, answer-of}
+use Rattle.writes.proofs.WriteLaws.{wrote-is, room-is}
+use Rattle.writes.proofs.FirstLaws.{first-told, all-told}
+use Rattle.scoping.specs.Scoped.{scoped}
+use Rattle.demands.specs.Demanded.{demanded}
+use Rattle.listing.specs.Parts.{Last, demands-of, listed, Filled}
+use Rattle.accepted.specs.Ready.{Ready, Reserved}
+
+module _ (bytes starts : List ℕ) {k : ℕ} (p : Ready bytes starts k) where
+  told : Told bytes (p .names) k
+  told = counts-are bytes (p .counted)
+
+  pub some-root : (0 < k) × (k ≤ 512)
+  some-root =
+      let long = told .nodes-are in
+      let some = told .formed .some-node in
+      let few = told .formed .few-nodes in
+      (omega arith, omega arith)
+
+  last-node : (i : NodeNo) → i ≡ node-no (k - 1) → root-no (contents bytes) ≡ i
+  unfolding root-no
+  last-node i d = ap (λ (m : ℕ). node-no (m - 1)) (told .nodes-are) ∙ sym d
+
+  module _ (i : NodeNo) (d : i ≡ node-no (k - 1)) where
+    pub has-root : Has bytes starts (i .0)
+    has-root =
+        let long = told .nodes-are in
+        let some = told .formed .some-node in
+        let here : i .0 ≡ k - 1 = ap (λ (m : NodeNo). m .0) d in
+        (p .stored, omega arith)
+
+    pub last-root : Last bytes starts (i .0)
+    last-root =
+        let long = told .nodes-are in
+        let some = told .formed .some-node in
+        let here : i .0 ≡ k - 1 = ap (λ (m : NodeNo). m .0) d in
+        record { has = has-root; all = omega arith }
+
+    -- what a walk from the root writes is the part
+    abbrev untied : List Finding
+    untied = findings (for-names 28 i (free (condition-of bytes (i .0))))
+
+    untied-part : untied ≡ closedness-part (contents bytes)
+    unfolding closedness-part closedness-broken root
+    untied-part = ap (λ (m : NodeNo). findings (for-names 28 m (free (condition-of bytes (m .0))))) (sym (last-node i d))
+
+    pub closedness-room : Room untied 0
+    closedness-room = room-is (sym untied-part) (let l = closedness-length (contents bytes) in record { left = omega arith })
+
+    pub closedness-told : {x count : ℕ} {after : List ℕ} → Wrote untied 0 count (x ∷ []) after → answer-of count (getD after 0 0) ≡ closedness bytes
+    unfolding closedness answered
+    closedness-told w =
+        first-told (closedness-part (contents bytes)) (closedness-fits (contents bytes) (told .formed)) (wrote-is (sym untied-part) w)
+        ∙ sym (ap (answered closedness-part) (told .outcome))
+
+    demanded-part : demands-of (condition-of bytes (i .0)) ≡ demands-part (contents bytes)
+    unfolding demands-of demanded demands-part root
+    demanded-part = ap (λ (m : NodeNo). demands-of (condition-of bytes (m .0))) (sym (last-node i d))
+
+    pub demands-room : Room (demands-of (condition-of bytes (i .0))) 0
+    demands-room = room-is (sym demanded-part) (let l = demands-length (contents bytes) (told .formed) in record { left = omega arith })
+
+    pub demands-told : {x count : ℕ} {after : List ℕ} → Wrote (demands-of (condition-of bytes (i .0))) 0 count (x ∷ []) after → answer-of count (getD after 0 0) ≡ demands bytes
+    unfolding demands answered
+    demands-told w =
+        first-told (demands-part (contents bytes)) (demands-fits (contents bytes) (told .formed)) (wrote-is (sym demanded-part) w)
+        ∙ sym (ap (answered demands-part) (told .outcome))
+
+    pub arithmetic-told : arithmetic bytes ≡ pick (has-arith (condition-of bytes (i .0))) arith.Yes arith.No
+    unfolding arithmetic arithmetic-of root
+    arithmetic-told =
+        ap arithmetic-of (told .outcome) ∙ ap (λ (m : NodeNo). pick (has-arith (condition-of bytes (m .0))) arith.Yes arith.No) (last-node i d)
+
+    module _ (words : Names) (reserves : Reserved bytes words) where
+      scoped-part : (seed : Set) → scoped (mem words) (condition (condition-of bytes (i .0))) seed ≡ scoping-part (contents bytes) seed
+      unfolding scoping-part scoped root
+      scoped-part seed =
+          ap₂ (λ (w : Set) (m : NodeNo). scoped w (condition (condition-of bytes (m .0))) seed) reserves (sym (last-node i d))
+
+      pub scoping-room : (seed : Set) → Room (scoped (mem words) (condition (condition-of bytes (i .0))) seed) 0
+      scoping-room seed = room-is (sym (scoped-part seed)) (let l = scoping-length (contents bytes) (told .formed) seed in record { left = omega arith })
+
+      pub scoping-told : (seed : Set) {x count : ℕ} {after : List ℕ} → Wrote (scoped (mem words) (condition (condition-of bytes (i .0))) seed) 0 count (x ∷ []) after
+          → answer-of count (getD after 0 0) ≡ scoping bytes seed
+      unfolding scoping answered
+      scoping-told seed w =
+          first-told (scoping-part (contents bytes) seed) (scoping-fits (contents bytes) (told .formed) seed) (wrote-is (sym (scoped-part seed)) w)
+          ∙ sym (ap (answered (λ c. scoping-part c seed)) (told .outcome))
+
+      -- the three parts
+      abbrev written : List Finding
+      written = listed (mem words) i (condition-of bytes (i .0))
+
+      list-parts : written ≡ the-list (contents bytes)
+      unfolding listed the-list
+      list-parts = ap₂ {C = List Finding} _++_ (scoped-part none) (ap₂ {C = List Finding} _++_ untied-part demanded-part)
+
+      pub list-room : Room written 0
+      list-room = room-is (sym list-parts) (let l = list-length (contents bytes) (told .formed) in record { left = omega arith })
+
+      module _ {count : ℕ} {before after : List ℕ} (w : Filled written count before after) where
+        counted : count ≡ length (packed (contents bytes))
+        unfolding packed
+        counted = let e = ap length list-parts in let f = length-map (the-list (contents bytes)) pack in let t = w .total in omega arith
+
+        pub list-without-room : length before < count → (listing.NoRoom count ≡ list bytes (length before)) × (after ≡ list-buffer bytes before)
+        unfolding list listing-of list-buffer buffer-of
+        list-without-room h =
+            let e = counted in
+            let f = lt-leb (length (packed (contents bytes))) (length before) (omega arith) in
+            (rw (told .outcome, f) (ap listing.NoRoom e), rw (told .outcome, f) (w .kept h))
+
+        pub list-with-room : count ≤ length before → (listing.Listed count ≡ list bytes (length before)) × (after ≡ list-buffer bytes before)
+        unfolding list listing-of list-buffer buffer-of packed
+        list-with-room h =
+            let e = counted in
+            let f = le-leb (length (packed (contents bytes))) (length before) (omega arith) in (
+              rw (told .outcome, f) (ap listing.Listed e),
+              rw (told .outcome, f)
+                  (all-told (the-list (contents bytes)) (let g = length-map (the-list (contents bytes)) pack in omega arith) (wrote-is (sym list-parts) (w .wrote h))),
+            )

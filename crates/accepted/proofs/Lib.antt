@@ -1,0 +1,2 @@
+-- Each question's answer, from what stands at the root.
+pub mod AtRoot

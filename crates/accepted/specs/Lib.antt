@@ -1,0 +1,2 @@
+-- What is known of bytes that the reader accepted.
+pub mod Ready

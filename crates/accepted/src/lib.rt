@@ -1,0 +1,87 @@
+// What each question answers to bytes that the reader accepted.
+use checks::arith::condition_has_arith;
+use listing::demand_entries;
+use listing::list_entries;
+use listing::open_entries;
+use listing::scoping_entries;
+use names::Names;
+use paper::Answer;
+use paper::Arithmetic;
+use paper::Listing;
+use paper::NodeNo;
+use writes::first;
+ghost use mathlib.Core.Path.{_≡_};
+ghost use lib.ListN.{length};
+ghost use Prim.Native.Nat.{_-_, _<_, _≤_};
+ghost use Rattle.paper.specs.Record.{node-no};
+ghost use Rattle.paper.specs.Questions.{scoping as scoping-answer, closedness as closedness-answer, demands as demands-answer, arithmetic as arithmetic-answer, list as list-answer, list-buffer};
+ghost use Rattle.names.specs.Words.{mem};
+ghost use Rattle.accepted.specs.Ready.{Ready, Reserved};
+
+// The last node.
+fn root(nodes: usize) -> NodeNo
+    requires { ⌜ (0 < nodes) × (nodes ≤ 512) ⌝ }
+    ensures { λ r. ⌜ r ≡ node-no (nodes - 1) ⌝ }
+{
+    NodeNo((nodes - 1) as u16)
+}
+
+// The first entry of 20 to 27 where the seed's names are in scope; or accepted.
+pub fn scoping(bytes: &[u8], starts: &[u16; 512], nodes: usize, seed: Names, words: Names) -> Answer
+    requires { ⌜ Ready (now bytes) (now starts) nodes × Reserved (now bytes) words ⌝ }
+    ensures { λ r. ⌜ r ≡ scoping-answer (now (bytes .entry)) (mem seed) ⌝ }
+{
+    let mut one = [0u32; 1];
+    let count = scoping_entries(bytes, starts, root(nodes), seed, words, &mut one);
+    first(count, one[0])
+}
+
+// The first entry of 28; or accepted.
+pub fn closedness(bytes: &[u8], starts: &[u16; 512], nodes: usize) -> Answer
+    requires { ⌜ Ready (now bytes) (now starts) nodes ⌝ }
+    ensures { λ r. ⌜ r ≡ closedness-answer (now (bytes .entry)) ⌝ }
+{
+    let mut one = [0u32; 1];
+    let open = open_entries(bytes, starts, root(nodes), &mut one);
+    first(open, one[0])
+}
+
+// The first entry of 30 to 32; or accepted.
+pub fn demands(bytes: &[u8], starts: &[u16; 512], nodes: usize) -> Answer
+    requires { ⌜ Ready (now bytes) (now starts) nodes ⌝ }
+    ensures { λ r. ⌜ r ≡ demands-answer (now (bytes .entry)) ⌝ }
+{
+    let mut one = [0u32; 1];
+    let owed = demand_entries(bytes, starts, root(nodes), &mut one);
+    first(owed, one[0])
+}
+
+// Whether arithmetic is an operand of a comparison.
+pub fn arithmetic(bytes: &[u8], starts: &[u16; 512], nodes: usize) -> Arithmetic
+    requires { ⌜ Ready (now bytes) (now starts) nodes ⌝ }
+    ensures { λ r. ⌜ r ≡ arithmetic-answer (now (bytes .entry)) ⌝ }
+{
+    if condition_has_arith(bytes, starts, root(nodes)) {
+        return Arithmetic::Yes;
+    }
+    Arithmetic::No
+}
+
+// The entries needed, where the buffer has fewer; or the list, in the first entries of the buffer, and its length.
+pub fn list(
+    bytes: &[u8],
+    starts: &[u16; 512],
+    nodes: usize,
+    words: Names,
+    out: &mut [u32],
+) -> Listing
+    requires { ⌜ Ready (now bytes) (now starts) nodes × Reserved (now bytes) words ⌝ }
+    ensures { λ r. ⌜ (r ≡ list-answer (now (bytes .entry)) (length (now (out .entry)))) × (now (out .exit) ≡ list-buffer (now (bytes .entry)) (now (out .entry))) ⌝ }
+{
+    let room = out.len();
+    let count = list_entries(bytes, starts, root(nodes), words, out);
+    if room < count {
+        return Listing::NoRoom(count);
+    }
+    Listing::Listed(count)
+}
