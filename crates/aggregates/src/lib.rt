@@ -1,6 +1,4 @@
 // The entries of an aggregate, before its body's.
-use free::binder_names;
-use free::slot_name;
 use names::Names;
 use paper::Finding;
 use paper::Node;
@@ -10,7 +8,9 @@ use paper::Subject;
 use record::access::node_at;
 use rows::read::collect_free;
 use rows::read::collect_range_restricted;
-use sigils::is_sigil;
+use slots::binder_names;
+use slots::is_sigil;
+use slots::slot_name;
 use writes::emit;
 use writes::put;
 ghost use mathlib.Core.Path.{_≡_};

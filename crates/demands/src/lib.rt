@@ -1,6 +1,4 @@
 // Demands: 30 to 32.
-use free::binder_names;
-use free::slot_name;
 use names::Names;
 use paper::Node;
 use paper::NodeNo;
@@ -10,6 +8,8 @@ use rows::read::collect_free;
 use rows::read::collect_range_restricted;
 use rows::read::collect_term_var;
 use rows::read::is_plain;
+use slots::binder_names;
+use slots::slot_name;
 use vars::eq_restricted_var;
 use writes::emit;
 ghost use mathlib.Core.Path.{_≡_};

@@ -1,14 +1,14 @@
 // The row of every node that has one, found by one recursion from the root.
+use derived::facts_of;
 use known::Parts;
 use paper::Node;
 use paper::NodeNo;
-use parts::facts_of;
 use parts::parts_of;
 use record::access::node_at;
 use rows::row::facts_at;
 use rows::row::put_facts;
-use rows::together::join_facts;
-use rows::together::nothing;
+use together::join_facts;
+use together::nothing;
 ghost use mathlib.Core.Path.{_≡_};
 ghost use mathlib.Core.Bool.{true};
 ghost use Prim.Native.Nat.{_+_, _<_};

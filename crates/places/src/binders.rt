@@ -1,10 +1,10 @@
 // The binder of an exists, and the slot of a tp.
-use free::slot_name;
 use names::Names;
 use paper::NodeNo;
 use paper::Slot;
 use rows::read::body_has_sigil;
 use rows::read::collect_range_restricted;
+use slots::slot_name;
 use writes::emit;
 ghost use mathlib.Core.Path.{_≡_};
 ghost use mathlib.Core.Bool.{true};

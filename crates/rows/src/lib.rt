@@ -1,4 +1,3 @@
-// Rows of facts: a node's facts as five words, how those of parts are put together, and what walks read.
+// Rows of facts: a node's facts as five words, and what walks read of them.
 pub mod read;
 pub mod row;
-pub mod together;

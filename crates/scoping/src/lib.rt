@@ -1,8 +1,6 @@
 // Scoping: 20 to 27.
 use aggregates::check_agg_expr;
 use aggregates::is_skipped;
-use free::binder_names;
-use free::slot_name;
 use names::Names;
 use paper::Node;
 use paper::NodeNo;
@@ -11,6 +9,8 @@ use places::binders::reject_reserved_binder;
 use places::nested::reject_nested_agg;
 use record::access::node_at;
 use rows::read::is_plain;
+use slots::binder_names;
+use slots::slot_name;
 ghost use mathlib.Core.Path.{_≡_};
 ghost use mathlib.Core.Bool.{true};
 ghost use Rattle.paper.specs.Places.{condition, operand};

@@ -14,7 +14,7 @@ use Rattle.aggregates.proofs.has_sigil_binder.Reads as has-sigil-binder
 use Rattle.aggregates.proofs.has_sigil_binder.Kinds as has-sigil-binder-kinds
 use Rattle.aggregates.proofs.+has_sigil_binder.Lts-has_sigil_binder as has-sigil-binder-lts
 use Rattle.record.proofs.access.node_at.Reads as node-at-reads
-use Rattle.sigils.proofs.is_sigil.Reads as is-sigil-reads
+use Rattle.slots.proofs.is_sigil.Reads as is-sigil-reads
 use Rattle.aggregates.proofs.+has_sigil_binder.{statement}
 use Rattle.aggregates.proofs.+has_sigil_binder.Tie.{close}
 

@@ -8,7 +8,7 @@ use Rattle.paper.specs.declared.Node.{Node}
 use Rattle.paper.specs.Places.{Broken, gather, findings}
 use Rattle.trees.proofs.Arms.{Arm, arm}
 use Rattle.trees.proofs.Sorts.{a-body}
-use Rattle.free.proofs.FreeLaws.{slot-tabled}
+use Rattle.slots.proofs.SlotLaws.{slot-tabled}
 use Rattle.writes.proofs.WriteLaws.{wrote-none, wrote-is, room-is}
 use Rattle.aggregates.proofs.AggregateLaws.{five-sum, five-count, five-none}
 use Rattle.aggregates.proofs.check_agg_expr.Statement.{statement}

@@ -27,7 +27,7 @@ use Rattle.demands.proofs.check_own_demands.Reads as check-own-demands-
 use Rattle.demands.proofs.tied_first.Reads as tied-first-reads
 use Rattle.demands.proofs.tied_second.Reads as tied-second-reads
 use Rattle.rows.proofs.read.is_plain.Reads as is-plain-reads
-use Rattle.free.proofs.binder_names.Reads as binder-names-reads
+use Rattle.slots.proofs.binder_names.Reads as binder-names-reads
 use Rattle.names.proofs.minus.Reads as minus-reads
 use Rattle.record.proofs.access.node_at.Reads as node-at-reads
 use Rattle.demands.proofs.check_chain.Kinds as check-chain-kinds

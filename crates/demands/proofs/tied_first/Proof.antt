@@ -4,7 +4,7 @@ use denote.Ref.{now}
 use borrow.Author.Needs.{needs}
 use Rattle.paper.specs.declared.Node.{Node}
 use Rattle.trees.proofs.Arms.{Arm, arm}
-use Rattle.free.proofs.FreeLaws.{slot-tabled}
+use Rattle.slots.proofs.SlotLaws.{slot-tabled}
 use Rattle.known.proofs.RowLaws.{body-row}
 use Rattle.demands.proofs.DemandLaws.{first-since, first-exists, first-same}
 use Rattle.demands.proofs.tied_first.Statement.{statement}

@@ -30,8 +30,8 @@ use Rattle.parts.proofs.parts_of.Reads as parts-of-reads
 use Rattle.record.proofs.access.node_at.Reads as node-at-reads
 use Rattle.rows.proofs.row.facts_at.Reads as facts-at-reads
 use Rattle.rows.proofs.row.put_facts.Reads as put-facts-reads
-use Rattle.rows.proofs.together.join_facts.Reads as join-facts-reads
-use Rattle.rows.proofs.together.nothing.Reads as nothing-reads
+use Rattle.together.proofs.join_facts.Reads as join-facts-reads
+use Rattle.together.proofs.nothing.Reads as nothing-reads
 use Rattle.facts.proofs.+collect_facts+collect_list.{statement}
 use Rattle.facts.proofs.+collect_facts+collect_list.Tie.{close}
 

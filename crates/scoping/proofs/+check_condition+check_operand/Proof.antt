@@ -16,7 +16,7 @@ use Rattle.trees.proofs.Shapes.One.{formerly, previous}
 use Rattle.trees.proofs.Shapes.Unbound.{one, refine}
 use Rattle.trees.proofs.Joins.{two-law, unbound-law}
 use Rattle.trees.proofs.Sorts.{a-body}
-use Rattle.free.proofs.FreeLaws.{slot-tabled}
+use Rattle.slots.proofs.SlotLaws.{slot-tabled}
 use Rattle.writes.proofs.WriteLaws.{wrote-none, wrote-then, wrote-is, room-is, room-first, room-rest}
 use Rattle.scoping.proofs.ScopingLaws.{plain-scoped, scoped-two, scoped-one, scoped-refine, scoped-comparison, scoped-predicate, scoped-tp, scoped-exists, scoped-arith, scoped-array, scoped-skipped, scoped-aggregate, scoped-none, operand-none}
 use Prim.Native.Nat.{ℕ, _<_}
@@ -28,8 +28,8 @@ use Rattle.scoping.proofs.+check_condition+check_operand.Lts-check_cond
 use Rattle.scoping.proofs.check_operand.Reads as check-operand
 use Rattle.scoping.proofs.check_operand.Kinds as check-operand-kinds
 use Rattle.scoping.proofs.+check_condition+check_operand.Lts-check_operand as check-operand-lts
-use Rattle.free.proofs.binder_names.Reads as binder-names-reads
-use Rattle.free.proofs.slot_name.Reads as slot-name-reads
+use Rattle.slots.proofs.binder_names.Reads as binder-names-reads
+use Rattle.slots.proofs.slot_name.Reads as slot-name-reads
 use Rattle.names.proofs.union.Reads as union-reads
 use Rattle.aggregates.proofs.check_agg_expr.Reads as check-agg-expr-reads
 use Rattle.aggregates.proofs.is_skipped.Reads as is-skipped-reads

@@ -1,0 +1,50 @@
+-- `binder_names` gives the named binders of a list. The measure is the node's number; the needs are in the order of the code, first what the calls ask.
+use mathlib.Core.Path.{_≡_, refl, sym, ap₂, _∙_}
+use Rattle.paper.specs.Sets.{_∪_}
+use Prim.Native.Nat.{ℕ, _<_}
+use denote.Ref.{now}
+use borrow.Author.Needs.{needs}
+use Rattle.paper.specs.declared.Node.{Node}
+use Rattle.trees.proofs.Arms.{Arm, arm, down}
+use Rattle.slots.proofs.SlotLaws.{slot-tabled, in-binders, binders-cell, no-binders}
+use borrow.Fn.Kinds.{In}
+use borrow.Fn.PlainCycle.{Measures, is, falls, and}
+use Rattle.slots.proofs.binder_names.Reads as binder-names
+use Rattle.slots.proofs.binder_names.Kinds as binder-names-kinds
+use Rattle.slots.proofs.+binder_names.Lts-binder_names as binder-names-lts
+use Rattle.names.proofs.empty.Reads as empty-reads
+use Rattle.names.proofs.union.Reads as union-reads
+use Rattle.record.proofs.access.node_at.Reads as node-at-reads
+use Rattle.slots.proofs.slot_name.Reads as slot-name-reads
+use Rattle.slots.proofs.+binder_names.{statement}
+use Rattle.slots.proofs.+binder_names.Tie.{close}
+
+abbrev μ-cells : Measures 2 binder-names-kinds.ps ℕ
+μ-cells κs a = a .1 .1 .0 .0
+
+abbrev cells-at : ℕ → In 2 binder-names-kinds.ps
+cells-at t = and 2 binder-names-kinds.ps (is 2 binder-names-kinds.ps μ-cells t) binder-names.Pre
+
+abbrev cells-below : ℕ → In 2 binder-names-kinds.ps
+cells-below t = and 2 binder-names-kinds.ps (falls 2 binder-names-kinds.ps _<_ μ-cells t) binder-names.Pre
+
+abbrev cells-claims : ℕ → binder-names-lts.Claims
+cells-claims t =
+    (node-at-reads.Asked, node-at-reads.Learnt, slot-name-reads.Asked, slot-name-reads.Learnt, cells-below t, binder-names.Post, union-reads.Asked, union-reads.Learnt, empty-reads.Asked, empty-reads.Learnt)
+
+cells-arm : (t : ℕ) (c : binder-names-lts.After-node-at (cells-claims t) (cells-at t) binder-names.Post) {m : Node} → c .node-at .result ≡ m
+    → Arm (now (c .before .before .args .bytes)) (now (c .before .before .args .starts)) (c .before .before .args .i .0) m
+cells-arm t c p = arm _ _ _ _ _ (c .before .before .pre .1) (c .node-at .ensures) p
+
+pub +binder-names-spec : {M : Type 1} → statement M
++binder-names-spec =
+    close μ-cells
+    (λ t. binder-names-lts.spec (cells-claims t) (cells-at t) binder-names.Post
+    (λ c κs. c .before .pre .1)
+    (λ c. search needs)
+    (λ c κs. slot-tabled (c .before .node .given .0 .0) (cells-arm t (c .before .before .before) (c .before .node .given .1) .tabled))
+    (λ c κs. down (cells-arm t (c .before .before .before .before) (c .before .before .node .given .1) .children .0) (c .before .before .before .before .before .before .pre .0))
+    (λ c κs. search needs)
+    (λ c κs. search needs)
+    (λ c. c .union .ensures ∙ ap₂ _∪_ (c .before .before .slot-name .ensures) (c .before .binder-names .ensures) ∙ sym (binders-cell (cells-arm t (c .before .before .before .before .before .before) (c .before .before .before .before .node .given .1))))
+    (λ c. c .empty .ensures ∙ sym (in-binders (cells-arm t (c .before .before) refl) ∙ no-binders _ _ _ (c .before .match .keys2))))

@@ -1,0 +1,61 @@
+-- What slots are, and what `binder_names` finds at a node. Assumes nothing.
+use mathlib.Core.Path.{_≡_, refl, ap}
+use mathlib.Core.Bool.{true}
+use mathlib.Core.List.{List, [], _∷_}
+use Prim.Native.Nat.{ℕ, _<_}
+use types.Run.{OneOf, miss}
+use denote.Enum.Declared.{tagOf}
+use Rattle.paper.proofs.Node.{the-type}
+use Rattle.paper.proofs.Slot.{the-type as slot-type}
+use Rattle.paper.specs.declared.NodeNo.{NodeNo}
+use Rattle.paper.specs.declared.Slot.{Slot}
+use Rattle.paper.specs.declared.Slot.the-variants.{Name, Param, Binder}
+use Rattle.paper.specs.declared.Node.{Node}
+use Rattle.paper.specs.declared.Node.the-variants as node
+use Rattle.paper.specs.Sets.{none, _∪_}
+use Rattle.paper.specs.Record.{node-no}
+use Rattle.paper.specs.Tree.{Tree, as-binders, planted}
+use Rattle.paper.specs.Shape.{slot-names}
+use Rattle.paper.specs.FreeAndRestricted.{named, is-sigil, binder-names}
+use Rattle.paper.proofs.Walks.{All}
+use Rattle.trees.specs.Trees.{tree-of, binders-of}
+use Rattle.trees.proofs.Arms.{Arm}
+use Rattle.trees.proofs.ByKind.{binders-cases}
+use Rattle.trees.specs.Terms.{Tabled}
+
+pub sigil-slot : (s : Slot) → OneOf (1 ∷ 2 ∷ []) (tagOf slot-type s) → is-sigil s ≡ true
+unfolding is-sigil
+sigil-slot (Name x) h = absurd (miss (1 ∷ 2 ∷ []) 0 tt h)
+sigil-slot (Param k) h = refl
+sigil-slot (Binder k) h = refl
+
+-- a slot's name is in the table where the slot's names are
+pub slot-tabled : (s : Slot) → All (λ x. x < 128) (slot-names s) → Tabled s
+slot-tabled (Name x) a = a .0
+slot-tabled (Param k) a = tt
+slot-tabled (Binder k) a = tt
+
+pub unnamed-slot : (s : Slot) → OneOf (1 ∷ 2 ∷ []) (tagOf slot-type s) → named s ≡ none
+unfolding named
+unnamed-slot (Name x) h = absurd (miss (1 ∷ 2 ∷ []) 0 tt h)
+unnamed-slot (Param k) h = refl
+unnamed-slot (Binder k) h = refl
+
+module _ {bytes starts : List ℕ} {i : ℕ} where
+  pub in-binders : {m : Node} → Arm bytes starts i m → binder-names (binders-of bytes i) ≡ binder-names (as-binders (planted (tree-of bytes) (node-no i) m))
+  in-binders a = ap (λ (t : Tree). binder-names (as-binders t)) (a .tree)
+
+  pub binders-cell : {s : Slot} {y : ℕ} {l : NodeNo} → Arm bytes starts i (node.BinderCell s y l)
+      → binder-names (binders-of bytes i) ≡ named s ∪ binder-names (binders-of bytes (l .0))
+  unfolding planted as-binders binder-names
+  binders-cell a = in-binders a
+
+-- no binder cell
+abbrev no-binders-kinds : List ℕ
+no-binders-kinds = 0 ∷ 1 ∷ 2 ∷ 3 ∷ 4 ∷ 5 ∷ 6 ∷ 7 ∷ 8 ∷ 9 ∷ 10 ∷ 11 ∷ 12 ∷ 13 ∷ 14 ∷ 15 ∷ 16 ∷ 17 ∷ 18 ∷ 19 ∷ 20 ∷ 21 ∷ 22 ∷ 23 ∷ 24 ∷ 25 ∷ 26 ∷ 27 ∷ []
+
+pub no-binders : (t : ℕ → Tree) (n : NodeNo) (m : Node) → OneOf no-binders-kinds (tagOf the-type m) → binder-names (as-binders (planted t n m)) ≡ none
+unfolding binder-names
+no-binders t n =
+    binders-cases t n (λ m z. OneOf no-binders-kinds (tagOf the-type m) → binder-names z ≡ none)
+    (λ h. refl) (λ s y l h. absurd (miss no-binders-kinds 28 tt h)) (λ m e h. refl)

@@ -1,0 +1,48 @@
+// What slots are: sigils, or names; and the names of lists of binders.
+use names::Names;
+use paper::Node;
+use paper::NodeNo;
+use paper::Slot;
+use record::access::node_at;
+ghost use mathlib.Core.Path.{_≡_};
+ghost use Rattle.paper.specs.FreeAndRestricted.{named, is-sigil, binder-names};
+ghost use Rattle.names.specs.Words.{mem};
+ghost use Rattle.record.specs.Stored.{Has};
+ghost use Rattle.trees.specs.Trees.{binders-of};
+ghost use Rattle.trees.specs.Terms.{Tabled};
+
+pub fn is_sigil(slot: Slot) -> bool
+    ensures { λ r. ⌜ r ≡ is-sigil slot ⌝ }
+{
+    match slot {
+        Slot::Name(_) => false,
+        _ => true,
+    }
+}
+
+// The name of a slot, if it is one.
+pub fn slot_name(slot: Slot) -> Names
+    requires { ⌜ Tabled slot ⌝ }
+    ensures { λ r. ⌜ mem r ≡ named slot ⌝ }
+{
+    match slot {
+        Slot::Name(x) => names::single(x),
+        _ => names::empty(),
+    }
+}
+
+// The named binders of an aggregate's list.
+pub fn binder_names(bytes: &[u8], starts: &[u16; 512], i: NodeNo) -> Names
+    requires { ⌜ Has (now bytes) (now starts) (i .0) ⌝ }
+    ensures { λ r. ⌜ mem r ≡ binder-names (binders-of (now (bytes .entry)) (i .0)) ⌝ }
+{
+    let node = node_at(bytes, starts, i);
+    match node {
+        Node::BinderCell(slot, _, rest) => {
+            let own = slot_name(slot);
+            let others = binder_names(bytes, starts, rest);
+            names::union(own, others)
+        }
+        _ => names::empty(),
+    }
+}
