@@ -32,7 +32,7 @@ use Rattle.writes.specs.Written.{Room, Wrote, answer-of}
 use Rattle.writes.proofs.WriteLaws.{wrote-is, room-is}
 use Rattle.writes.proofs.FirstLaws.{first-told, all-told}
 use Rattle.scoping.specs.Scoped.{scoped}
-use Rattle.demands.specs.Demanded.{demanded}
+use Rattle.owed.specs.Demanded.{demanded}
 use Rattle.listing.specs.Parts.{Last, demands-of, listed, Filled}
 use Rattle.accepted.specs.Ready.{Ready, Reserved}
 

@@ -13,7 +13,7 @@ use Rattle.paper.specs.Tree.{Condition}
 use Rattle.paper.specs.FreeAndRestricted.{free, holds-sigil}
 use Rattle.paper.specs.Places.{condition, for-names, findings}
 use Rattle.scoping.specs.Scoped.{scoped}
-use Rattle.demands.specs.Demanded.{demanded}
+use Rattle.owed.specs.Demanded.{demanded}
 use Rattle.record.specs.Stored.{Has}
 use Rattle.record.proofs.StoredLaws.{few}
 use Rattle.trees.specs.Trees.{tree-of, is-condition}

@@ -14,7 +14,7 @@ use lib.ListN.{length}
 use Rattle.record.specs.Stored.{contents, Has}
 use Rattle.writes.specs.Written.{Wrote}
 use Rattle.scoping.specs.Scoped.{scoped}
-use Rattle.demands.specs.Demanded.{demanded}
+use Rattle.owed.specs.Demanded.{demanded}
 
 unfoldable pub demands-of : Condition → List Finding
 demands-of c = pick (holds-sigil c) [] (demanded true (condition c) none)

@@ -56,21 +56,6 @@ no-other (k ∷ l ∷ ks) ls x e h f = go (λ e h. no-other (l ∷ ks) ls x e h 
     go later true d e (inr h) = later e h
     go later false d e h = true≢false (sym e)
 
--- a kind among some of them is among more
-pub among-more : (ks ls : List ℕ) (x : ℕ) → all-in ls ks ≡ true → OneOf ks x → OneOf ls x
-among-more ks ls x e h = go (hasKey ls x) refl
-  where
-    go : (b : Bool) → hasKey ls x ≡ b → OneOf ls x
-    go true f = hit ls x (rw f tt)
-    go false f = absurd (no-other ks ls x e h f)
-
--- what a list says of each of some kinds it says of a kind among them
-pub keyed : (ks ls : List ℕ) (b : Bool) (x : ℕ) → All (λ k. hasKey ls k ≡ b) ks → OneOf ks x → hasKey ls x ≡ b
-keyed [] ls b x a h = absurd h
-keyed (k ∷ []) ls b x a h = ap (hasKey ls) h ∙ a .0
-keyed (k ∷ l ∷ ks) ls b x a (inl h) = ap (hasKey ls) h ∙ a .0
-keyed (k ∷ l ∷ ks) ls b x a (inr h) = keyed (l ∷ ks) ls b x (a .1) h
-
 -- every kind by itself
 module _ (P : Node → Type 0)
     (and : (l r : NodeNo) → P (node.And l r))
@@ -102,7 +87,7 @@ module _ (P : Node → Type 0)
     (arg : (f : ℕ) (x l : NodeNo) → P (node.ArgumentCell f x l))
     (item : (x l : NodeNo) → P (node.ItemCell x l))
     (cell : (s : Slot) (y : ℕ) (l : NodeNo) → P (node.BinderCell s y l)) where
-  pub by-kind : (m : Node) → P m
+  by-kind : (m : Node) → P m
   by-kind (node.And l r) = and l r
   by-kind (node.Or l r) = or l r
   by-kind (node.Not b) = not b
@@ -132,14 +117,6 @@ module _ (P : Node → Type 0)
   by-kind (node.ArgumentCell f x l) = arg f x l
   by-kind (node.ItemCell x l) = item x l
   by-kind (node.BinderCell s y l) = cell s y l
-
-pub condition-kind : (t : ℕ → Tree) (n : NodeNo) (m : Node) → is-condition (planted t n m) ≡ hasKey condition-kinds (tagOf the-type m)
-unfolding planted is-condition
-condition-kind t n =
-    by-kind (λ (m : Node). is-condition (planted t n m) ≡ hasKey condition-kinds (tagOf the-type m))
-    (λ l r. refl) (λ l r. refl) (λ b. refl) (λ b w. refl) (λ b w. refl) (λ l r w. refl) (λ s y b. refl) (λ o l r. refl) (λ a l. refl) (λ b l. refl) (λ s. refl)
-    (λ y. refl) (λ y. refl) (λ x. refl) refl (λ y. refl) (λ y. refl) (λ y. refl) (λ k. refl) (λ k. refl) (λ l. refl) (λ o l r. refl) (λ s l b. refl) (λ l b. refl)
-    (λ y. refl) refl (λ f x l. refl) (λ x l. refl) (λ s y l. refl)
 
 -- a condition
 module _ (t : ℕ → Tree) (n : NodeNo) (P : Node → Condition → Type 0)

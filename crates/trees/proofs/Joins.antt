@@ -74,11 +74,6 @@ pub record JoinsTerms {A : Type 0} (f : Term → A) (g : Arguments → A) (h : I
   pub no-argument : (n : NodeNo) → g (no-argument n) ≡ v
   pub no-item : (n : NodeNo) → h (no-item n) ≡ v
 
-pub record JoinsFields {A : Type 0} (c : Condition → A) (f : Term → A) (g : Arguments → A) (op : A → A → A) : Type 0 where
-  pub comparison : (n : NodeNo) (o : ℕ) (l r : Term) → c (Comparison n o l r) ≡ op (f l) (f r)
-  pub predicate : (n : NodeNo) (k : ℕ) (l : Arguments) → c (Predicate n k l) ≡ g l
-  pub refine : (n : NodeNo) (b : Condition) (l : Arguments) → c (Refine n b l) ≡ op (c b) (g l)
-
 module _ {A : Type 0} {f : Term → A} {g : Arguments → A} {h : Items → A} {v : A} {op : A → A → A} (j : JoinsTerms f g h v op) where
   abbrev within : Tree → A
   within t = in-terms f g h v t
@@ -99,28 +94,6 @@ module _ {A : Type 0} {f : Term → A} {g : Arguments → A} {h : Items → A} {
   terms-law shape.item a =
       ap within (a .tree) ∙ j .item _ _ _
       ∙ ap₂ op (sym (at-term f g h v _ (a .children .0 .fits))) (sym (at-items f g h v (j .no-item) _ (a .children .1 .0 .fits)))
-
-  -- ---- conditions over terms
-
-  module _ {c : Condition → A} (k : JoinsFields c f g op) {bytes starts : List ℕ} {i : ℕ} where
-    pub comparison-law : {o : ℕ} {l r : NodeNo} → Arm bytes starts i (node.Comparison o l r)
-        → c (condition-of bytes i) ≡ op (within (tree-of bytes (l .0))) (within (tree-of bytes (r .0)))
-    unfolding planted as-condition
-    comparison-law a =
-        ap (λ (t : Tree). c (as-condition t)) (a .tree) ∙ k .comparison _ _ _ _
-        ∙ ap₂ op (sym (at-term f g h v _ (a .children .0 .fits))) (sym (at-term f g h v _ (a .children .1 .0 .fits)))
-
-    pub predicate-law : {q : ℕ} {l : NodeNo} → Arm bytes starts i (node.Predicate q l) → c (condition-of bytes i) ≡ within (tree-of bytes (l .0))
-    unfolding planted as-condition
-    predicate-law a =
-        ap (λ (t : Tree). c (as-condition t)) (a .tree) ∙ k .predicate _ _ _ ∙ sym (at-arguments f g h v (j .no-argument) _ (a .children .0 .fits))
-
-    pub refine-law : {b l : NodeNo} → Arm bytes starts i (node.Refine b l)
-        → c (condition-of bytes i) ≡ op (c (condition-of bytes (b .0))) (within (tree-of bytes (l .0)))
-    unfolding planted as-condition
-    refine-law a =
-        ap (λ (t : Tree). c (as-condition t)) (a .tree) ∙ k .refine _ _ _
-        ∙ ap₂ op refl (sym (at-arguments f g h v (j .no-argument) _ (a .children .1 .0 .fits)))
 
 -- ---- `a || b` in code: b is looked at only where a is false
 

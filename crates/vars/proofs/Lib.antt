@@ -1,2 +1,2 @@
 -- What the walk finds at a node, from what it finds at the nodes below.
-pub mod RestrictedLaws
+pub mod EqualityLaws

@@ -16,16 +16,16 @@ use Rattle.trees.proofs.Shapes as shape
 use Rattle.trees.proofs.Shapes.{Two, Base, Aggregate, sum, count, of-two, of-base, of-aggregate, met₁, met₂}
 use Rattle.writes.specs.Written.{Room}
 use Rattle.writes.proofs.WriteLaws.{wrote-none, wrote-then, wrote-is, room-is, room-first, room-rest}
-use Rattle.demands.proofs.DemandLaws.{plain-demanded, below-it, wrote-own-first, room-own, room-below, below-two, below-base, below-comparison, below-none, operand-arith, operand-aggregate, operand-none}
+use Rattle.owed.proofs.DemandLaws.{plain-demanded, below-it, wrote-own-first, room-own, room-below, below-two, below-base, below-comparison, below-none, operand-arith, operand-aggregate, operand-none}
 use Prim.Native.Nat.{ℕ, _<_}
 use borrow.Fn.Kinds.{In}
 use borrow.Fn.PlainCycle.{Measures, is, falls, and}
 use Rattle.demands.proofs.check_chain.Reads as check-chain
 use Rattle.demands.proofs.descend_nested_chains.Reads as descend-nested-chains
-use Rattle.demands.proofs.asked_first.Reads as asked-first-reads
-use Rattle.demands.proofs.check_own_demands.Reads as check-own-demands-reads
-use Rattle.demands.proofs.tied_first.Reads as tied-first-reads
-use Rattle.demands.proofs.tied_second.Reads as tied-second-reads
+use Rattle.owed.proofs.asked_first.Reads as asked-first-reads
+use Rattle.owed.proofs.check_own_demands.Reads as check-own-demands-reads
+use Rattle.owed.proofs.tied_first.Reads as tied-first-reads
+use Rattle.owed.proofs.tied_second.Reads as tied-second-reads
 use Rattle.rows.proofs.read.is_plain.Reads as is-plain-reads
 use Rattle.slots.proofs.binder_names.Reads as binder-names-reads
 use Rattle.names.proofs.minus.Reads as minus-reads

@@ -11,7 +11,7 @@ use Rattle.trees.proofs.Arms.{Arm, arm, down}
 use Rattle.trees.proofs.Shapes.{Terms, arith, argument, item, of-terms, met₂}
 use Rattle.trees.proofs.Joins.{terms-law, array-law, or-taken, or-else}
 use Rattle.trees.specs.Terms.{wildcard-in}
-use Rattle.vars.proofs.RestrictedLaws.{wildcard-terms, wildcard-here, no-wildcard}
+use Rattle.vars.proofs.EqualityLaws.{wildcard-terms, wildcard-here, no-wildcard}
 use borrow.Fn.Kinds.{In}
 use borrow.Fn.PlainCycle.{Measures, is, falls, and}
 use Rattle.vars.proofs.term_contains_wildcard.Reads as term-contains-wildcard

@@ -3,7 +3,7 @@ use mathlib.Core.Path.{refl, sym, _∙_}
 use borrow.Author.Needs.{needs}
 use Rattle.paper.specs.FreeAndRestricted.{bare}
 use Rattle.trees.proofs.Arms.{arm}
-use Rattle.vars.proofs.RestrictedLaws.{in-term, bare-here, not-bare}
+use Rattle.vars.proofs.EqualityLaws.{in-term, bare-here, not-bare}
 use Rattle.vars.proofs.bare_var.Statement.{statement}
 use Rattle.vars.proofs.bare_var.Tie as tie
 

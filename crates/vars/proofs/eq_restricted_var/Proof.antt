@@ -1,7 +1,7 @@
 -- `eq_restricted_var` says which side is tied. The needs are in the order of the code.
 use mathlib.Core.Path.{sym, _∙_}
 use borrow.Author.Needs.{needs}
-use Rattle.vars.proofs.RestrictedLaws.{tied-other, tied-left, tied-left-not, tied-right, tied-right-not, tied-neither}
+use Rattle.vars.proofs.EqualityLaws.{tied-other, tied-left, tied-left-not, tied-right, tied-right-not, tied-neither}
 use Rattle.vars.proofs.eq_restricted_var.Statement.{statement}
 use Rattle.vars.proofs.eq_restricted_var.Tie as tie
 

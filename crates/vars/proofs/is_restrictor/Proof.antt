@@ -4,7 +4,7 @@ use mathlib.Core.Bool.{not}
 use borrow.Author.Needs.{needs}
 use Rattle.paper.specs.FreeAndRestricted.{ties}
 use Rattle.trees.proofs.Arms.{arm}
-use Rattle.vars.proofs.RestrictedLaws.{in-term, ties-arith, ties-nothing, ties-value}
+use Rattle.vars.proofs.EqualityLaws.{in-term, ties-arith, ties-nothing, ties-value}
 use Rattle.vars.proofs.is_restrictor.Statement.{statement}
 use Rattle.vars.proofs.is_restrictor.Tie as tie
 

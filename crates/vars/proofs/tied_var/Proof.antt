@@ -4,7 +4,7 @@ use mathlib.Core.Logic.{⊎-elim}
 use borrow.Author.Needs.{needs}
 use Rattle.paper.specs.declared.Tied.the-variants.{Left, Right}
 use Rattle.paper.specs.FreeAndRestricted.{tied-name}
-use Rattle.vars.proofs.RestrictedLaws.{TiedTo, left, right, tied-to-name, tied-tabled}
+use Rattle.vars.proofs.EqualityLaws.{TiedTo, left, right, tied-to-name, tied-tabled}
 use Rattle.vars.proofs.tied_var.Statement.{statement}
 use Rattle.vars.proofs.tied_var.Tie as tie
 

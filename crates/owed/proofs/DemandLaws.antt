@@ -35,7 +35,7 @@ use Rattle.trees.proofs.ByKind.{condition-kinds, no-other, condition-cases, ter
 use Rattle.writes.specs.Written.{Room, Wrote}
 use native.Mathlib.Nat.{le-refl}
 use Rattle.writes.proofs.WriteLaws.{wrote-then, wrote-is, room-is, room-first, room-rest}
-use Rattle.demands.specs.Demanded.{place-below, demanded, owed, owed-compared}
+use Rattle.owed.specs.Demanded.{place-below, demanded, owed, owed-compared}
 
 -- ---- from a place on
 

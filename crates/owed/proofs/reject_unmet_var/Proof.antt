@@ -8,8 +8,8 @@ use Rattle.paper.specs.declared.Finding.{Finding}
 use Rattle.paper.specs.Sets.{Set}
 use Rattle.paper.specs.Places.{for-names, findings}
 use Rattle.writes.proofs.WriteLaws.{wrote-is, room-is}
-use Rattle.demands.proofs.reject_unmet_var.Statement.{statement}
-use Rattle.demands.proofs.reject_unmet_var.Tie as tie
+use Rattle.owed.proofs.reject_unmet_var.Statement.{statement}
+use Rattle.owed.proofs.reject_unmet_var.Tie as tie
 
 abbrev about : ℕ → NodeNo → Set → List Finding
 about rule n s = findings (for-names rule n s)

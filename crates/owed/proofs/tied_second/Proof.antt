@@ -5,9 +5,9 @@ use borrow.Author.Needs.{needs}
 use Rattle.paper.specs.declared.Node.{Node}
 use Rattle.trees.proofs.Arms.{Arm, arm}
 use Rattle.known.proofs.RowLaws.{body-row}
-use Rattle.demands.proofs.DemandLaws.{second-and, second-same}
-use Rattle.demands.proofs.tied_second.Statement.{statement}
-use Rattle.demands.proofs.tied_second.Tie as tie
+use Rattle.owed.proofs.DemandLaws.{second-and, second-same}
+use Rattle.owed.proofs.tied_second.Statement.{statement}
+use Rattle.owed.proofs.tied_second.Tie as tie
 
 here : (c : tie.Start) {m : Node} → c .args .node ≡ m → Arm (now (c .args .bytes)) (now (c .args .starts)) (c .args .i .0) m
 here c p = arm _ _ _ _ _ (c .pre .0 .0) (c .pre .1) p

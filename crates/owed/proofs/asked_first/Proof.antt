@@ -3,9 +3,9 @@ use mathlib.Core.Path.{_≡_, refl}
 use denote.Ref.{now}
 use Rattle.paper.specs.declared.Node.{Node}
 use Rattle.trees.proofs.Arms.{Arm, arm}
-use Rattle.demands.proofs.DemandLaws.{asked-below, unasked-below}
-use Rattle.demands.proofs.asked_first.Statement.{statement}
-use Rattle.demands.proofs.asked_first.Tie as tie
+use Rattle.owed.proofs.DemandLaws.{asked-below, unasked-below}
+use Rattle.owed.proofs.asked_first.Statement.{statement}
+use Rattle.owed.proofs.asked_first.Tie as tie
 
 here : (c : tie.Start) {m : Node} → c .args .node ≡ m → Arm (now (c .args .bytes)) (now (c .args .starts)) (c .args .i .0) m
 here c p = arm _ _ _ _ _ (c .pre .0) (c .pre .1) p

@@ -1,9 +1,9 @@
 -- `check_comparison_demands` writes 30 for the value of a binding equality, and 31 for any other comparison.
 use borrow.Author.Needs.{needs}
 use Rattle.writes.proofs.WriteLaws.{wrote-is, room-is}
-use Rattle.demands.proofs.DemandLaws.{compared-left, compared-right, compared-neither}
-use Rattle.demands.proofs.check_comparison_demands.Statement.{statement}
-use Rattle.demands.proofs.check_comparison_demands.Tie as tie
+use Rattle.owed.proofs.DemandLaws.{compared-left, compared-right, compared-neither}
+use Rattle.owed.proofs.check_comparison_demands.Statement.{statement}
+use Rattle.owed.proofs.check_comparison_demands.Tie as tie
 
 left-writes : tie.Need-returns
 left-writes c = wrote-is (compared-left _ _ _ _ (c .before .before .before .before .enum-told .given .1)) (c .before .before .reject-unmet-var .ensures)

@@ -6,8 +6,8 @@ use borrow.Author.Needs.{needs}
 use Rattle.paper.specs.declared.Finding.{Finding}
 use Rattle.paper.specs.Record.{pick}
 use Rattle.writes.proofs.WriteLaws.{wrote-none, wrote-is, room-is}
-use Rattle.demands.proofs.check_own_demands.Statement.{statement}
-use Rattle.demands.proofs.check_own_demands.Tie as tie
+use Rattle.owed.proofs.check_own_demands.Statement.{statement}
+use Rattle.owed.proofs.check_own_demands.Tie as tie
 
 picked : {b : Bool} (l : List Finding) → b ≡ true → pick b l [] ≡ l
 picked l e = rw e

@@ -7,9 +7,9 @@ use Rattle.paper.specs.Sets.{_∪_}
 use Rattle.trees.proofs.Arms.{Arm, arm}
 use Rattle.known.proofs.RowLaws.{body-row, term-row}
 use Rattle.writes.proofs.WriteLaws.{wrote-none, wrote-is, room-is}
-use Rattle.demands.proofs.DemandLaws.{owed-comparison, owed-not, owed-since, owed-none}
-use Rattle.demands.proofs.check_conjunct_demands.Statement.{statement}
-use Rattle.demands.proofs.check_conjunct_demands.Tie as tie
+use Rattle.owed.proofs.DemandLaws.{owed-comparison, owed-not, owed-since, owed-none}
+use Rattle.owed.proofs.check_conjunct_demands.Statement.{statement}
+use Rattle.owed.proofs.check_conjunct_demands.Tie as tie
 
 here : (c : tie.Start) {m : Node} → c .args .node ≡ m → Arm (now (c .args .bytes)) (now (c .args .starts)) (c .args .i .0) m
 here c p = arm _ _ _ _ _ (c .pre .0 .0) (c .pre .1 .0) p

@@ -6,9 +6,9 @@ use Rattle.paper.specs.declared.Node.{Node}
 use Rattle.trees.proofs.Arms.{Arm, arm}
 use Rattle.slots.proofs.SlotLaws.{slot-tabled}
 use Rattle.known.proofs.RowLaws.{body-row}
-use Rattle.demands.proofs.DemandLaws.{first-since, first-exists, first-same}
-use Rattle.demands.proofs.tied_first.Statement.{statement}
-use Rattle.demands.proofs.tied_first.Tie as tie
+use Rattle.owed.proofs.DemandLaws.{first-since, first-exists, first-same}
+use Rattle.owed.proofs.tied_first.Statement.{statement}
+use Rattle.owed.proofs.tied_first.Tie as tie
 
 here : (c : tie.Start) {m : Node} → c .args .node ≡ m → Arm (now (c .args .bytes)) (now (c .args .starts)) (c .args .i .0) m
 here c p = arm _ _ _ _ _ (c .pre .0 .0) (c .pre .1) p

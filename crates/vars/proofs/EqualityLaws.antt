@@ -1,4 +1,4 @@
--- What `term_contains_wildcard`, `bare_var` and `is_restrictor` find at a node, and the restricted names of a node from the nodes below it. Assumes nothing.
+-- What `term_contains_wildcard`, `bare_var` and `is_restrictor` find at a node, and what an equality ties. Assumes nothing.
 use mathlib.Core.Path.{_≡_, refl, sym, ap, _∙_, subst}
 use mathlib.Core.Bool.{Bool, true, false, not, true≢false, _||_}
 use mathlib.Core.List.{List, [], _∷_}
@@ -85,45 +85,6 @@ module _ {bytes starts : List ℕ} {i : ℕ} where
   pub ties-arith : {o : ℕ} {l r : NodeNo} → Arm bytes starts i (node.Arith o l r) → ties (term-of bytes i) ≡ not (wildcard-in (tree-of bytes i))
   unfolding planted as-term in-terms ties has-wildcard
   ties-arith a = in-term ties a ∙ sym (ap (λ (t : Tree). not (wildcard-in t)) (a .tree))
-
-  -- ---- restricted names
-
-  pub in-restricted : {m : Node} → Arm bytes starts i m → restricted (condition-of bytes i) ≡ restricted (as-condition (planted (tree-of bytes) (node-no i) m))
-  in-restricted a = ap (λ (t : Tree). restricted (as-condition t)) (a .tree)
-
-  pub restricted-and : {l r : NodeNo} → Arm bytes starts i (node.And l r)
-      → restricted (condition-of bytes i) ≡ restricted (condition-of bytes (l .0)) ∪ restricted (condition-of bytes (r .0))
-  unfolding planted as-condition restricted
-  restricted-and a = in-restricted a
-
-  pub restricted-predicate : {k : ℕ} {l : NodeNo} → Arm bytes starts i (node.Predicate k l) → restricted (condition-of bytes i) ≡ direct (arguments-of bytes (l .0))
-  unfolding planted as-condition restricted
-  restricted-predicate a = in-restricted a
-
-  pub restricted-tp : {s : Slot} → Arm bytes starts i (node.Tp s) → restricted (condition-of bytes i) ≡ named s
-  unfolding planted as-condition restricted
-  restricted-tp a = in-restricted a
-
-  pub restricted-comparison : {o : ℕ} {l r : NodeNo} → Arm bytes starts i (node.Comparison o l r)
-      → restricted (condition-of bytes i) ≡ tied-name (tied o (term-of bytes (l .0)) (term-of bytes (r .0)))
-  unfolding planted as-condition restricted
-  restricted-comparison a = in-restricted a
-
-  pub restricted-anchor : {b : NodeNo} {m : Node} → Anchor b m → Arm bytes starts i m → restricted (condition-of bytes i) ≡ restricted (condition-of bytes (b .0))
-  unfolding planted as-condition restricted
-  restricted-anchor formerly a = in-restricted a
-  restricted-anchor previous a = in-restricted a
-  restricted-anchor since a = in-restricted a
-
-  pub restricted-exists : {s : Slot} {y : ℕ} {b : NodeNo} → Arm bytes starts i (node.Exists s y b)
-      → restricted (condition-of bytes i) ≡ restricted (condition-of bytes (b .0)) ∖ named s
-  unfolding planted as-condition restricted
-  restricted-exists a = in-restricted a
-
-  pub restricted-refine : {b l : NodeNo} → Arm bytes starts i (node.Refine b l)
-      → restricted (condition-of bytes i) ≡ restricted (condition-of bytes (b .0)) ∪ direct (arguments-of bytes (l .0))
-  unfolding planted as-condition restricted
-  restricted-refine a = in-restricted a
 
 -- ---- what an equality ties
 
@@ -261,17 +222,3 @@ ties-value t n =
     (λ x h. absurd (miss ties-value-kinds 13 tt h)) (λ h. absurd (miss ties-value-kinds 14 tt h)) (λ y h. refl) (λ y h. refl) (λ y h. refl)
     (λ k h. refl) (λ k h. refl) (λ l h. refl) (λ o l r h. absurd (miss ties-value-kinds 21 tt h)) (λ s l b h. refl) (λ l b h. refl) (λ y h. refl)
     (λ m e h. refl)
-
--- Or, Not, Call, SigilRef, and no condition
-abbrev pub restricts-nothing-kinds : List ℕ
-restricts-nothing-kinds = 1 ∷ 2 ∷ 11 ∷ 12 ∷ 13 ∷ 14 ∷ 15 ∷ 16 ∷ 17 ∷ 18 ∷ 19 ∷ 20 ∷ 21 ∷ 22 ∷ 23 ∷ 24 ∷ 25 ∷ 26 ∷ 27 ∷ 28 ∷ []
-
-pub restricts-nothing : (t : ℕ → Tree) (n : NodeNo) (m : Node) → OneOf restricts-nothing-kinds (tagOf the-type m) → restricted (as-condition (planted t n m)) ≡ none
-unfolding restricted direct
-restricts-nothing t n =
-    condition-cases t n (λ m z. OneOf restricts-nothing-kinds (tagOf the-type m) → restricted z ≡ none)
-    (λ l r h. absurd (miss restricts-nothing-kinds 0 tt h)) (λ l r h. refl) (λ b h. refl) (λ b w h. absurd (miss restricts-nothing-kinds 3 tt h))
-    (λ b w h. absurd (miss restricts-nothing-kinds 4 tt h)) (λ l r w h. absurd (miss restricts-nothing-kinds 5 tt h))
-    (λ s y b h. absurd (miss restricts-nothing-kinds 6 tt h)) (λ o l r h. absurd (miss restricts-nothing-kinds 7 tt h))
-    (λ a l h. absurd (miss restricts-nothing-kinds 8 tt h)) (λ b l h. absurd (miss restricts-nothing-kinds 9 tt h))
-    (λ s h. absurd (miss restricts-nothing-kinds 10 tt h)) (λ y h. refl) (λ y h. refl) (λ m e h. refl)
