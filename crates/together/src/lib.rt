@@ -105,15 +105,15 @@ pub fn apart(rows: &[[u64; 5]], l: NodeNo, r: NodeNo, given: Names) -> Facts
     requires { ⌜ (l .0 < length (now rows)) × (r .0 < length (now rows)) ⌝ }
     ensures { λ f. ⌜ meant f ≡ facts-apart (meant (facts-at (now (rows .entry)) (l .0))) (meant (facts-at (now (rows .entry)) (r .0))) (mem given) ⌝ }
 {
-    let one = facts_at(rows, l);
-    let other = facts_at(rows, r);
-    let a = one.free;
-    let b = other.free;
+    let left = facts_at(rows, l);
+    let right = facts_at(rows, r);
+    let a = left.free;
+    let b = right.free;
     let free = names::union(a, b);
     Facts {
         free: free,
         restricted: given,
-        sigil: one.sigil | other.sigil,
+        sigil: left.sigil | right.sigil,
         plain: false,
     }
 }
