@@ -17,7 +17,7 @@ use Rattle.paper.specs.Tree.{root-no}
 use Rattle.paper.specs.Places.{Broken, itself, for-names, at-cells}
 use Rattle.paper.specs.Scoping.{reserved, scope-broken, scoping-part}
 use Rattle.paper.specs.Demands.{closedness-broken, closedness-part, demand-broken, demands-part}
-use Rattle.paper.specs.TheList.{the-list, name-or-255, pack, about, unpack}
+use Rattle.paper.specs.TheList.{the-list, name-or-255, pack, subject-of, unpack}
 use Rattle.paper.proofs.Walks.{All, all-map, all-append}
 use Rattle.paper.proofs.EachFound.{Finds, findings-all, scoping-each, demands-each}
 use Rattle.paper.proofs.WellFormed.{WellFormed}
@@ -33,10 +33,10 @@ NameFits NoName = Unit {0}
 abbrev pub Fits : Finding → Type 0
 Fits f = (f .rule < 256) × (f .node .0 < 65536) × NameFits (f .name)
 
-about-name : (s : Subject) → NameFits s → about (name-or-255 s) ≡ s
-unfolding about name-or-255
-about-name (Name x) h = rw (ne-eqb (x .0) 255 (λ e. omega arith))
-about-name NoName h = refl
+subject-name : (s : Subject) → NameFits s → subject-of (name-or-255 s) ≡ s
+unfolding subject-of name-or-255
+subject-name (Name x) h = rw (ne-eqb (x .0) 255 (λ e. omega arith))
+subject-name NoName h = refl
 
 name-small : (s : Subject) → NameFits s → name-or-255 s < 256
 unfolding name-or-255
@@ -62,7 +62,7 @@ unfolding unpack pack
 unpack-pack f h =
     let x = name-or-255 (f .name) in
     let k = name-small (f .name) (h .2) in
-    rw (rule-digit (f .rule) (f .node .0) x (h .1) k, node-digit (f .rule) (f .node .0) x (h .1) k, name-digit (f .rule) (f .node .0) x k, about-name (f .name) (h .2))
+    rw (rule-digit (f .rule) (f .node .0) x (h .1) k, node-digit (f .rule) (f .node .0) x (h .1) k, name-digit (f .rule) (f .node .0) x k, subject-name (f .name) (h .2))
 
 -- ---- the parts
 

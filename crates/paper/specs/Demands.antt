@@ -50,36 +50,36 @@ closedness-part c = findings (closedness-broken c)
 -- "right of And adds what the left restricts; left of Since adds what the right restricts; exists and aggregate bodies drop their named
 -- binders; every other step keeps the set. Every reached condition is asked, unless it is directly under Not or Refine."
 abbrev below-condition : Condition → Set → List Place
-below-condition (And n l r) tied = asked-at (condition l) tied ∷ asked-at (condition r) (tied ∪ restricted l) ∷ []
-below-condition (Or n l r) tied = asked-at (condition l) tied ∷ asked-at (condition r) tied ∷ []
-below-condition (Not n b) tied = unasked-at (condition b) tied ∷ []
-below-condition (Past n k b w) tied = asked-at (condition b) tied ∷ []
-below-condition (Since n l r w) tied = asked-at (condition l) (tied ∪ restricted r) ∷ asked-at (condition r) tied ∷ []
-below-condition (Exists n s y b) tied = asked-at (condition b) (tied ∖ named s) ∷ []
-below-condition (Comparison n o l r) tied = asked-at (operand l) tied ∷ asked-at (operand r) tied ∷ []
-below-condition (Predicate n a l) tied = []
-below-condition (Refine n b l) tied = unasked-at (condition b) tied ∷ []
-below-condition (Tp n s) tied = []
-below-condition (Opaque n k y) tied = []
+below-condition (And n l r) names = asked-at (condition l) names ∷ asked-at (condition r) (names ∪ restricted l) ∷ []
+below-condition (Or n l r) names = asked-at (condition l) names ∷ asked-at (condition r) names ∷ []
+below-condition (Not n b) names = unasked-at (condition b) names ∷ []
+below-condition (Past n k b w) names = asked-at (condition b) names ∷ []
+below-condition (Since n l r w) names = asked-at (condition l) (names ∪ restricted r) ∷ asked-at (condition r) names ∷ []
+below-condition (Exists n s y b) names = asked-at (condition b) (names ∖ named s) ∷ []
+below-condition (Comparison n o l r) names = asked-at (operand l) names ∷ asked-at (operand r) names ∷ []
+below-condition (Predicate n a l) names = []
+below-condition (Refine n b l) names = unasked-at (condition b) names ∷ []
+below-condition (Tp n s) names = []
+below-condition (Opaque n k y) names = []
 
 -- "Aggregate bodies are reached from comparisons through arithmetic only, also unasked ones, whatever their binders."
 abbrev below-operand : Term → Set → List Place
-below-operand (Var n x) tied = []
-below-operand (Wildcard n) tied = []
-below-operand (Value n k y) tied = []
-below-operand (Sigil n k i) tied = []
-below-operand (Array n l) tied = []
-below-operand (Arith n o l r) tied = asked-at (operand l) tied ∷ asked-at (operand r) tied ∷ []
-below-operand (Sum n s l b) tied = asked-at (condition b) (tied ∖ binder-names l) ∷ []
-below-operand (Count n l b) tied = asked-at (condition b) (tied ∖ binder-names l) ∷ []
-below-operand (AggregateCall n y) tied = []
+below-operand (Var n x) names = []
+below-operand (Wildcard n) names = []
+below-operand (Value n k y) names = []
+below-operand (Sigil n k i) names = []
+below-operand (Array n l) names = []
+below-operand (Arith n o l r) names = asked-at (operand l) names ∷ asked-at (operand r) names ∷ []
+below-operand (Sum n s l b) names = asked-at (condition b) (names ∖ binder-names l) ∷ []
+below-operand (Count n l b) names = asked-at (condition b) (names ∖ binder-names l) ∷ []
+below-operand (AggregateCall n y) names = []
 
 abbrev below-spot : Spot → Set → List Place
-below-spot (condition c) tied = below-condition c tied
-below-spot (operand t) tied = below-operand t tied
-below-spot (searched t) tied = []
-below-spot (searched-arguments l) tied = []
-below-spot (searched-items l) tied = []
+below-spot (condition c) names = below-condition c names
+below-spot (operand t) names = below-operand t names
+below-spot (searched t) names = []
+below-spot (searched-arguments l) names = []
+below-spot (searched-items l) names = []
 
 unfoldable pub demand-below : Place → List Place
 demand-below p = below-spot (p .spot) (p .names)
@@ -88,30 +88,30 @@ demand-below p = below-spot (p .spot) (p .names)
 
 -- "30, binding equality: the other side's free names must be tied. 31, other comparison: all its free names."
 abbrev pub comparison-broken : NodeNo → Term → Term → Set → Tied → List Broken
-comparison-broken n l r tied (Left x) = for-names 30 n (term-free r ∖ tied) ∷ []
-comparison-broken n l r tied (Right x) = for-names 30 n (term-free l ∖ tied) ∷ []
-comparison-broken n l r tied Neither = for-names 31 n ((term-free l ∪ term-free r) ∖ tied) ∷ []
+comparison-broken n l r names (Left x) = for-names 30 n (term-free r ∖ names) ∷ []
+comparison-broken n l r names (Right x) = for-names 30 n (term-free l ∖ names) ∷ []
+comparison-broken n l r names Neither = for-names 31 n ((term-free l ∪ term-free r) ∖ names) ∷ []
 
 -- "31, .. or Not: all its free names. 32, Since: free names of the left, tied or restricted by the right."
 abbrev condition-broken : Condition → Set → List Broken
-condition-broken (And n l r) ties = []
-condition-broken (Or n l r) ties = []
-condition-broken (Not n b) ties = for-names 31 n (free b ∖ ties) ∷ []
-condition-broken (Past n k b w) ties = []
-condition-broken (Since n l r w) ties = for-names 32 n (free l ∖ (ties ∪ restricted r)) ∷ []
-condition-broken (Exists n s y b) ties = []
-condition-broken (Comparison n o l r) ties = comparison-broken n l r ties (tied o l r)
-condition-broken (Predicate n a l) ties = []
-condition-broken (Refine n b l) ties = []
-condition-broken (Tp n s) ties = []
-condition-broken (Opaque n k y) ties = []
+condition-broken (And n l r) names = []
+condition-broken (Or n l r) names = []
+condition-broken (Not n b) names = for-names 31 n (free b ∖ names) ∷ []
+condition-broken (Past n k b w) names = []
+condition-broken (Since n l r w) names = for-names 32 n (free l ∖ (names ∪ restricted r)) ∷ []
+condition-broken (Exists n s y b) names = []
+condition-broken (Comparison n o l r) names = comparison-broken n l r names (tied o l r)
+condition-broken (Predicate n a l) names = []
+condition-broken (Refine n b l) names = []
+condition-broken (Tp n s) names = []
+condition-broken (Opaque n k y) names = []
 
 abbrev spot-broken : Spot → Set → List Broken
-spot-broken (condition c) ties = condition-broken c ties
-spot-broken (operand t) ties = []
-spot-broken (searched t) ties = []
-spot-broken (searched-arguments l) ties = []
-spot-broken (searched-items l) ties = []
+spot-broken (condition c) names = condition-broken c names
+spot-broken (operand t) names = []
+spot-broken (searched t) names = []
+spot-broken (searched-arguments l) names = []
+spot-broken (searched-items l) names = []
 
 unfoldable pub demand-broken : Place → List Broken
 demand-broken p = pick (p .asked) (spot-broken (p .spot) (p .names)) []

@@ -31,11 +31,11 @@ unfoldable pub pack : Finding → ℕ
 pack f = f .rule * 16777216 + f .node .0 * 256 + name-or-255 (f .name)
 
 -- the entry that a number stands for
-unfoldable pub about : ℕ → Subject
-about x = pick (eqb x 255) NoName (Name (name-no x))
+unfoldable pub subject-of : ℕ → Subject
+subject-of x = pick (eqb x 255) NoName (Name (name-no x))
 
 unfoldable pub unpack : ℕ → Finding
-unpack v = record { rule = v / 16777216; node = node-no (v / 256 % 65536); name = about (v % 256) }
+unpack v = record { rule = v / 16777216; node = node-no (v / 256 % 65536); name = subject-of (v % 256) }
 
 unfoldable pub packed : Contents → List ℕ
 packed c = map pack (the-list c)

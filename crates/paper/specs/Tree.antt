@@ -61,46 +61,46 @@ pub data Tree : Type 0 where
 
 -- ---- a tree at a place of its sort. The reader refuses any other (9), so what stands for one here is never met: it has no name and no child
 
-abbrev nowhere : NodeNo
-nowhere = node-no 0
+abbrev no-node : NodeNo
+no-node = node-no 0
 
 unfoldable pub as-condition : Tree → Condition
 as-condition (a-condition c) = c
-as-condition (a-term t) = Predicate nowhere 0 (no-argument nowhere)
-as-condition (arguments l) = Predicate nowhere 0 (no-argument nowhere)
-as-condition (items l) = Predicate nowhere 0 (no-argument nowhere)
-as-condition (binders l) = Predicate nowhere 0 (no-argument nowhere)
-as-condition (an-end n) = Predicate nowhere 0 (no-argument nowhere)
+as-condition (a-term t) = Predicate no-node 0 (no-argument no-node)
+as-condition (arguments l) = Predicate no-node 0 (no-argument no-node)
+as-condition (items l) = Predicate no-node 0 (no-argument no-node)
+as-condition (binders l) = Predicate no-node 0 (no-argument no-node)
+as-condition (an-end n) = Predicate no-node 0 (no-argument no-node)
 
 unfoldable pub as-term : Tree → Term
-as-term (a-condition c) = Value nowhere 0 0
+as-term (a-condition c) = Value no-node 0 0
 as-term (a-term t) = t
-as-term (arguments l) = Value nowhere 0 0
-as-term (items l) = Value nowhere 0 0
-as-term (binders l) = Value nowhere 0 0
-as-term (an-end n) = Value nowhere 0 0
+as-term (arguments l) = Value no-node 0 0
+as-term (items l) = Value no-node 0 0
+as-term (binders l) = Value no-node 0 0
+as-term (an-end n) = Value no-node 0 0
 
 unfoldable pub as-arguments : Tree → Arguments
-as-arguments (a-condition c) = no-argument nowhere
-as-arguments (a-term t) = no-argument nowhere
+as-arguments (a-condition c) = no-argument no-node
+as-arguments (a-term t) = no-argument no-node
 as-arguments (arguments l) = l
-as-arguments (items l) = no-argument nowhere
-as-arguments (binders l) = no-argument nowhere
+as-arguments (items l) = no-argument no-node
+as-arguments (binders l) = no-argument no-node
 as-arguments (an-end n) = no-argument n
 
 unfoldable pub as-items : Tree → Items
-as-items (a-condition c) = no-item nowhere
-as-items (a-term t) = no-item nowhere
-as-items (arguments l) = no-item nowhere
+as-items (a-condition c) = no-item no-node
+as-items (a-term t) = no-item no-node
+as-items (arguments l) = no-item no-node
 as-items (items l) = l
-as-items (binders l) = no-item nowhere
+as-items (binders l) = no-item no-node
 as-items (an-end n) = no-item n
 
 unfoldable pub as-binders : Tree → Binders
-as-binders (a-condition c) = no-binder nowhere
-as-binders (a-term t) = no-binder nowhere
-as-binders (arguments l) = no-binder nowhere
-as-binders (items l) = no-binder nowhere
+as-binders (a-condition c) = no-binder no-node
+as-binders (a-term t) = no-binder no-node
+as-binders (arguments l) = no-binder no-node
+as-binders (items l) = no-binder no-node
 as-binders (binders l) = l
 as-binders (an-end n) = no-binder n
 
@@ -147,7 +147,7 @@ module _ (t : ℕ → Tree) (n : NodeNo) where
 
 -- the trees of the first n nodes
 unfoldable pub trees : List Node → ℕ → ℕ → Tree
-trees nodes zero k = an-end nowhere
+trees nodes zero k = an-end no-node
 trees nodes (suc n) k =
     elim (eqb k n) [ true ↦ planted (trees nodes n) (node-no n) (getD nodes n node.ListEnd) | false ↦ trees nodes n k ]
 

@@ -8,7 +8,7 @@ use paper::Subject;
 ghost use mathlib.Core.Path.{_≡_};
 ghost use mathlib.Core.List.{[], _∷_};
 ghost use Prim.Native.Nat.{_<_};
-ghost use Rattle.paper.specs.TheList.{about as abouts, name-or-255, pack as packs, unpack as unpacks};
+ghost use Rattle.paper.specs.TheList.{subject-of, name-or-255, pack as packs, unpack as unpacks};
 ghost use Rattle.paper.specs.Places.{for-names, findings};
 ghost use Rattle.names.specs.Words.{mem};
 ghost use Rattle.writes.specs.Written.{Room, Wrote, entry-for, answer-of};
@@ -32,8 +32,8 @@ fn pack(f: Finding) -> u32
     (f.rule as u32) * 16777216 + (f.node.0 as u32) * 256 + (name as u32)
 }
 
-fn about(x: u8) -> Subject
-    ensures { λ r. ⌜ r ≡ abouts x ⌝ }
+fn subject_of(x: u8) -> Subject
+    ensures { λ r. ⌜ r ≡ subject-of x ⌝ }
 {
     if x == 255 {
         return Subject::NoName;
@@ -45,7 +45,7 @@ fn about(x: u8) -> Subject
 pub fn unpack(v: u32) -> Finding
     ensures { λ r. ⌜ r ≡ unpacks v ⌝ }
 {
-    let name = about((v % 256) as u8);
+    let name = subject_of((v % 256) as u8);
     Finding {
         rule: (v / 16777216) as u8,
         node: NodeNo((v / 256 % 65536) as u16),

@@ -11,17 +11,17 @@ use Rattle.writes.proofs.WriteLaws.{wrote-is, room-is}
 use Rattle.owed.proofs.reject_unmet_var.Statement.{statement}
 use Rattle.owed.proofs.reject_unmet_var.Tie as tie
 
-abbrev about : ℕ → NodeNo → Set → List Finding
-about rule n s = findings (for-names rule n s)
+abbrev entries-for : ℕ → NodeNo → Set → List Finding
+entries-for rule n s = findings (for-names rule n s)
 
 returns : tie.Need-returns
-returns c = wrote-is (ap (about _ _) (sym (c .before .before .before .before .minus .ensures))) (c .before .before .emit .ensures)
+returns c = wrote-is (ap (entries-for _ _) (sym (c .before .before .before .before .minus .ensures))) (c .before .before .emit .ensures)
 
 pub reject-unmet-var-spec : {M : Type 1} → statement M
 reject-unmet-var-spec =
     tie.close
     (tie.spec
     (λ c κs. search needs)
-    (λ c κs. room-is (ap (about _ _) (sym (c .before .minus .ensures))) (c .before .before .before .pre))
+    (λ c κs. room-is (ap (entries-for _ _) (sym (c .before .minus .ensures))) (c .before .before .before .pre))
     (λ c. search needs)
     returns)

@@ -12,7 +12,7 @@ returns : tie.Need-returns
 unfolding unpack
 returns c =
     let v = c .before .args .v in
-    ap {B = Finding} (λ (z : Subject). record { rule = v / 16777216; node = node-no (v / 256 % 65536); name = z }) (c .about .ensures)
+    ap {B = Finding} (λ (z : Subject). record { rule = v / 16777216; node = node-no (v / 256 % 65536); name = z }) (c .subject-of .ensures)
 
 pub unpack-spec : {M : Type 1} → statement M
 unpack-spec = tie.close (tie.spec (λ c. search needs) (λ c κs. search needs) (λ c. search needs) (λ c. search needs) returns)
