@@ -1,9 +1,9 @@
 // What each question answers to bytes that the reader accepted.
 use checks::arith::condition_has_arith;
-use listing::demand_entries;
-use listing::list_entries;
-use listing::open_entries;
-use listing::scoping_entries;
+use entries::demand_entries;
+use entries::list_entries;
+use entries::open_entries;
+use entries::scoping_entries;
 use names::Names;
 use paper::Answer;
 use paper::Arithmetic;

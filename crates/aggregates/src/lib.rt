@@ -1,99 +1,25 @@
 // The entries of an aggregate, before its body's.
+use cells::emit_cells;
 use names::Names;
-use paper::Finding;
 use paper::Node;
 use paper::NodeNo;
-use paper::Slot;
-use paper::Subject;
 use record::access::node_at;
 use rows::read::collect_free;
 use rows::read::collect_range_restricted;
 use slots::binder_names;
-use slots::is_sigil;
 use slots::slot_name;
 use writes::emit;
-use writes::put;
 ghost use mathlib.Core.Path.{_≡_};
 ghost use mathlib.Core.Bool.{true};
 ghost use Prim.Native.Nat.{_<_};
 ghost use lib.ListN.{length};
-ghost use Rattle.paper.specs.Places.{at-cells, gather, findings};
-ghost use Rattle.paper.specs.Scoping.{binder-sigil, cell-of, cells};
+ghost use Rattle.paper.specs.Places.{gather, findings};
 ghost use Rattle.names.specs.Words.{mem};
 ghost use Rattle.record.specs.Stored.{contents, Has};
 ghost use Rattle.known.specs.Rows.{Noted};
 ghost use Rattle.trees.specs.Trees.{tree-of, condition-of, term-of, binders-of, is-condition};
 ghost use Rattle.writes.specs.Written.{Room, Wrote};
-ghost use Rattle.aggregates.specs.Aggregates.{skips, five, five-of};
-
-pub fn has_sigil_binder(bytes: &[u8], starts: &[u16; 512], i: NodeNo) -> bool
-    requires { ⌜ Has (now bytes) (now starts) (i .0) ⌝ }
-    ensures { λ r. ⌜ r ≡ binder-sigil (binders-of (now (bytes .entry)) (i .0)) ⌝ }
-{
-    let node = node_at(bytes, starts, i);
-    match node {
-        Node::BinderCell(slot, _, rest) => is_sigil(slot) || has_sigil_binder(bytes, starts, rest),
-        _ => false,
-    }
-}
-
-// Whether the summed slot or a binder of an aggregate is a sigil.
-pub fn is_skipped(bytes: &[u8], starts: &[u16; 512], i: NodeNo) -> bool
-    requires { ⌜ Has (now bytes) (now starts) (i .0) ⌝ }
-    ensures { λ r. ⌜ r ≡ skips (term-of (now (bytes .entry)) (i .0)) ⌝ }
-{
-    let node = node_at(bytes, starts, i);
-    match node {
-        Node::Sum(slot, binders, _) => is_sigil(slot) || has_sigil_binder(bytes, starts, binders),
-        Node::Count(binders, _) => has_sigil_binder(bytes, starts, binders),
-        _ => false,
-    }
-}
-
-// A rule's entry at a cell, if the cell binds one of some names.
-fn emit_cell(n: NodeNo, slot: Slot, rule: u8, s: Names, out: &mut [u32], at: usize) -> usize
-    requires { ⌜ Room (findings (at-cells rule (mem s) (cell-of n slot))) at ⌝ }
-    ensures { λ r. ⌜ Wrote (findings (at-cells rule (mem s) (cell-of n slot))) at r (now (out .entry)) (now (out .exit)) ⌝ }
-{
-    match slot {
-        Slot::Name(x) => {
-            if names::member(s, x) {
-                let f = Finding {
-                    rule: rule,
-                    node: n,
-                    name: Subject::Name(x),
-                };
-                return put(out, at, f);
-            }
-            at
-        }
-        _ => at,
-    }
-}
-
-// A rule's entry at each cell that binds one of some names.
-fn emit_cells(
-    bytes: &[u8],
-    starts: &[u16; 512],
-    i: NodeNo,
-    rule: u8,
-    s: Names,
-    out: &mut [u32],
-    at: usize,
-) -> usize
-    requires { ⌜ Has (now bytes) (now starts) (i .0) ⌝ }
-    requires { ⌜ Room (findings (at-cells rule (mem s) (cells (binders-of (now bytes) (i .0))))) at ⌝ }
-    ensures { λ r. ⌜ Wrote (findings (at-cells rule (mem s) (cells (binders-of (now (bytes .entry)) (i .0))))) at r (now (out .entry)) (now (out .exit)) ⌝ }
-{
-    let node = node_at(bytes, starts, i);
-    match node {
-        Node::BinderCell(slot, _, rest) => {
-            let p = emit_cell(i, slot, rule, s, out, at);
-            emit_cells(bytes, starts, rest, rule, s, out, p)
-        }
-        _ => at,
-    }
-}
+ghost use Rattle.cells.specs.Aggregates.{five, five-of};
 
 // 22 at the cells, 24 and 25 at the aggregate, 26 and 27 at the cells.
 fn check_aggregation(

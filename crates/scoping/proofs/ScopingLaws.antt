@@ -33,7 +33,7 @@ use Rattle.known.specs.Plain.{plain-argument, plain-arguments, plain}
 use Rattle.known.proofs.RowLaws.{both-true}
 use Rattle.places.specs.Nested.{nested, nested-arguments, nested-items, nested-in}
 use Rattle.places.proofs.NestedLaws.{no-argument-nested, no-item-nested}
-use Rattle.aggregates.specs.Aggregates.{skips, five, five-of}
+use Rattle.cells.specs.Aggregates.{skips, five, five-of}
 use Rattle.scoping.specs.Scoped.{scoped}
 
 -- one run, or two, and then what lies below

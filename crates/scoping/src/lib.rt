@@ -1,6 +1,6 @@
 // Scoping: 20 to 27.
 use aggregates::check_agg_expr;
-use aggregates::is_skipped;
+use cells::is_skipped;
 use names::Names;
 use paper::Node;
 use paper::NodeNo;

@@ -10,7 +10,7 @@ use Rattle.trees.proofs.Arms.{Arm, arm}
 use Rattle.trees.proofs.Sorts.{a-body}
 use Rattle.slots.proofs.SlotLaws.{slot-tabled}
 use Rattle.writes.proofs.WriteLaws.{wrote-none, wrote-is, room-is}
-use Rattle.aggregates.proofs.AggregateLaws.{five-sum, five-count, five-none}
+use Rattle.cells.proofs.AggregateLaws.{five-sum, five-count, five-none}
 use Rattle.aggregates.proofs.check_agg_expr.Statement.{statement}
 use Rattle.aggregates.proofs.check_agg_expr.Tie as tie
 

@@ -11,8 +11,8 @@ use Rattle.paper.specs.Scoping.{cells}
 use Rattle.names.specs.Words.{mem}
 use Rattle.trees.specs.Trees.{condition-of, binders-of}
 use Rattle.writes.proofs.WriteLaws.{wrote-then, wrote-is, room-is, room-first, room-rest}
-use Rattle.aggregates.specs.Aggregates.{five}
-use Rattle.aggregates.proofs.AggregateLaws.{written, five-are}
+use Rattle.cells.specs.Aggregates.{five}
+use Rattle.cells.proofs.AggregateLaws.{written, five-are}
 use Rattle.aggregates.proofs.check_aggregation.Statement.{statement}
 use Rattle.aggregates.proofs.check_aggregation.Tie as tie
 

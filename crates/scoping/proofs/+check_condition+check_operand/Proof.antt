@@ -32,7 +32,7 @@ use Rattle.slots.proofs.binder_names.Reads as binder-names-reads
 use Rattle.slots.proofs.slot_name.Reads as slot-name-reads
 use Rattle.names.proofs.union.Reads as union-reads
 use Rattle.aggregates.proofs.check_agg_expr.Reads as check-agg-expr-reads
-use Rattle.aggregates.proofs.is_skipped.Reads as is-skipped-reads
+use Rattle.cells.proofs.is_skipped.Reads as is-skipped-reads
 use Rattle.places.proofs.binders.check_exists_safe.Reads as check-exists-safe-reads
 use Rattle.places.proofs.binders.reject_reserved_binder.Reads as reject-reserved-binder-reads
 use Rattle.places.proofs.nested.reject_nested_agg.Reads as reject-nested-agg-reads

@@ -1,8 +1,8 @@
 -- `demand_noted` notes the facts of the nodes, and walks over them.
 use borrow.Author.Needs.{needs}
 use Rattle.listing.proofs.ListingLaws.{from-last}
-use Rattle.listing.proofs.demand_noted.Statement.{statement}
-use Rattle.listing.proofs.demand_noted.Tie as tie
+use Rattle.entries.proofs.demand_noted.Statement.{statement}
+use Rattle.entries.proofs.demand_noted.Tie as tie
 
 pub demand-noted-spec : {M : Type 1} → statement M
 demand-noted-spec =

@@ -6,17 +6,17 @@ use Rattle.paper.specs.declared.Node.{Node}
 use Rattle.paper.specs.Scoping.{binder-sigil}
 use Rattle.trees.proofs.Arms.{Arm, arm, down}
 use Rattle.trees.proofs.Joins.{or-taken, or-else}
-use Rattle.aggregates.proofs.AggregateLaws.{in-cells, sigil-cell, no-cell, sigil-end}
+use Rattle.cells.proofs.AggregateLaws.{in-cells, sigil-cell, no-cell, sigil-end}
 use Prim.Native.Nat.{ℕ, _<_}
 use borrow.Fn.Kinds.{In}
 use borrow.Fn.PlainCycle.{Measures, is, falls, and}
-use Rattle.aggregates.proofs.has_sigil_binder.Reads as has-sigil-binder
-use Rattle.aggregates.proofs.has_sigil_binder.Kinds as has-sigil-binder-kinds
-use Rattle.aggregates.proofs.+has_sigil_binder.Lts-has_sigil_binder as has-sigil-binder-lts
+use Rattle.cells.proofs.has_sigil_binder.Reads as has-sigil-binder
+use Rattle.cells.proofs.has_sigil_binder.Kinds as has-sigil-binder-kinds
+use Rattle.cells.proofs.+has_sigil_binder.Lts-has_sigil_binder as has-sigil-binder-lts
 use Rattle.record.proofs.access.node_at.Reads as node-at-reads
 use Rattle.slots.proofs.is_sigil.Reads as is-sigil-reads
-use Rattle.aggregates.proofs.+has_sigil_binder.{statement}
-use Rattle.aggregates.proofs.+has_sigil_binder.Tie.{close}
+use Rattle.cells.proofs.+has_sigil_binder.{statement}
+use Rattle.cells.proofs.+has_sigil_binder.Tie.{close}
 
 abbrev μ-binders : Measures 2 has-sigil-binder-kinds.ps ℕ
 μ-binders κs a = a .1 .1 .0 .0

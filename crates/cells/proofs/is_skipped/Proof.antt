@@ -5,10 +5,10 @@ use borrow.Author.Needs.{needs}
 use Rattle.paper.specs.declared.Node.{Node}
 use Rattle.trees.proofs.Arms.{Arm, arm}
 use Rattle.trees.proofs.Joins.{or-taken, or-else}
-use Rattle.aggregates.specs.Aggregates.{skips}
-use Rattle.aggregates.proofs.AggregateLaws.{in-term, skips-sum, skips-count, no-skips}
-use Rattle.aggregates.proofs.is_skipped.Statement.{statement}
-use Rattle.aggregates.proofs.is_skipped.Tie as tie
+use Rattle.cells.specs.Aggregates.{skips}
+use Rattle.cells.proofs.AggregateLaws.{in-term, skips-sum, skips-count, no-skips}
+use Rattle.cells.proofs.is_skipped.Statement.{statement}
+use Rattle.cells.proofs.is_skipped.Tie as tie
 
 here : (c : tie.After-node-at) {m : Node} → c .node-at .result ≡ m
     → Arm (now (c .before .before .args .bytes)) (now (c .before .before .args .starts)) (c .before .before .args .i .0) m

@@ -1,11 +1,11 @@
--- `scoping_entries` has a row for each node: 32 of them, or 512.
+-- `list_entries` has a row for each node: 32 of them, or 512.
 use borrow.Author.Needs.{needs}
 use Rattle.listing.proofs.ListingLaws.{in-all-rows}
-use Rattle.listing.proofs.scoping_entries.Statement.{statement}
-use Rattle.listing.proofs.scoping_entries.Tie as tie
+use Rattle.entries.proofs.list_entries.Statement.{statement}
+use Rattle.entries.proofs.list_entries.Tie as tie
 
-pub scoping-entries-spec : {M : Type 1} → statement M
-scoping-entries-spec =
+pub list-entries-spec : {M : Type 1} → statement M
+list-entries-spec =
     tie.close
     (tie.spec
     (λ c. search needs)

@@ -1,8 +1,8 @@
 -- `scoping_noted` notes the facts of the nodes, and walks over them.
 use borrow.Author.Needs.{needs}
 use Rattle.listing.proofs.ListingLaws.{from-last}
-use Rattle.listing.proofs.scoping_noted.Statement.{statement}
-use Rattle.listing.proofs.scoping_noted.Tie as tie
+use Rattle.entries.proofs.scoping_noted.Statement.{statement}
+use Rattle.entries.proofs.scoping_noted.Tie as tie
 
 pub scoping-noted-spec : {M : Type 1} → statement M
 scoping-noted-spec =

@@ -11,17 +11,17 @@ use Rattle.paper.specs.Places.{Cell, at-cells, findings}
 use Rattle.paper.specs.Scoping.{cells}
 use Rattle.trees.proofs.Arms.{Arm, arm, down}
 use Rattle.writes.proofs.WriteLaws.{wrote-none, wrote-then, wrote-is, room-is, room-first, room-rest}
-use Rattle.aggregates.proofs.AggregateLaws.{in-cells, next-cell, cells-append, no-cell, cells-end, no-entry-at-no-cell}
+use Rattle.cells.proofs.AggregateLaws.{in-cells, next-cell, cells-append, no-cell, cells-end, no-entry-at-no-cell}
 use Prim.Native.Nat.{ℕ, _<_}
 use borrow.Fn.Kinds.{In}
 use borrow.Fn.PlainCycle.{Measures, is, falls, and}
-use Rattle.aggregates.proofs.emit_cells.Reads as emit-cells
-use Rattle.aggregates.proofs.emit_cells.Kinds as emit-cells-kinds
-use Rattle.aggregates.proofs.+emit_cells.Lts-emit_cells as emit-cells-lts
-use Rattle.aggregates.proofs.emit_cell.Reads as emit-cell-reads
+use Rattle.cells.proofs.emit_cells.Reads as emit-cells
+use Rattle.cells.proofs.emit_cells.Kinds as emit-cells-kinds
+use Rattle.cells.proofs.+emit_cells.Lts-emit_cells as emit-cells-lts
+use Rattle.cells.proofs.emit_cell.Reads as emit-cell-reads
 use Rattle.record.proofs.access.node_at.Reads as node-at-reads
-use Rattle.aggregates.proofs.+emit_cells.{statement}
-use Rattle.aggregates.proofs.+emit_cells.Tie.{close}
+use Rattle.cells.proofs.+emit_cells.{statement}
+use Rattle.cells.proofs.+emit_cells.Tie.{close}
 
 abbrev μ-cells : Measures 3 emit-cells-kinds.ps ℕ
 μ-cells κs a = a .1 .1 .0 .0

@@ -1,8 +1,8 @@
 -- `open_noted` notes the facts of the nodes, and looks at the last.
 use borrow.Author.Needs.{needs}
 use Rattle.listing.proofs.ListingLaws.{from-last}
-use Rattle.listing.proofs.open_noted.Statement.{statement}
-use Rattle.listing.proofs.open_noted.Tie as tie
+use Rattle.entries.proofs.open_noted.Statement.{statement}
+use Rattle.entries.proofs.open_noted.Tie as tie
 
 pub open-noted-spec : {M : Type 1} → statement M
 open-noted-spec =

@@ -1,11 +1,11 @@
--- `demand_entries` has a row for each node: 32 of them, or 512.
+-- `scoping_entries` has a row for each node: 32 of them, or 512.
 use borrow.Author.Needs.{needs}
 use Rattle.listing.proofs.ListingLaws.{in-all-rows}
-use Rattle.listing.proofs.demand_entries.Statement.{statement}
-use Rattle.listing.proofs.demand_entries.Tie as tie
+use Rattle.entries.proofs.scoping_entries.Statement.{statement}
+use Rattle.entries.proofs.scoping_entries.Tie as tie
 
-pub demand-entries-spec : {M : Type 1} → statement M
-demand-entries-spec =
+pub scoping-entries-spec : {M : Type 1} → statement M
+scoping-entries-spec =
     tie.close
     (tie.spec
     (λ c. search needs)

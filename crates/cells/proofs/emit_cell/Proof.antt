@@ -13,9 +13,9 @@ use Rattle.paper.specs.Sets.{Set}
 use Rattle.paper.specs.Places.{at-cells, gather, at-cell, findings}
 use Rattle.paper.specs.Scoping.{cell-of}
 use Rattle.writes.proofs.WriteLaws.{wrote-none, wrote-is, room-is}
-use Rattle.aggregates.proofs.AggregateLaws.{no-cell-entry}
-use Rattle.aggregates.proofs.emit_cell.Statement.{statement}
-use Rattle.aggregates.proofs.emit_cell.Tie as tie
+use Rattle.cells.proofs.AggregateLaws.{no-cell-entry}
+use Rattle.cells.proofs.emit_cell.Statement.{statement}
+use Rattle.cells.proofs.emit_cell.Tie as tie
 
 has-name : (rule : ℕ) (s : Set) (n : NodeNo) (x : NameNo) {slot : Slot} → slot ≡ Name x → s (x .0) ≡ true
     → findings (at-cells rule s (cell-of n slot)) ≡ record { rule = rule; node = n; name = Named x } ∷ []

@@ -24,7 +24,7 @@ use Rattle.paper.specs.Scoping.{binder-sigil, cell-of, cells}
 use Rattle.trees.specs.Trees.{tree-of, condition-of, term-of, binders-of}
 use Rattle.trees.proofs.Arms.{Arm}
 use Rattle.trees.proofs.ByKind.{term-cases, binders-cases}
-use Rattle.aggregates.specs.Aggregates.{skips, five, five-of}
+use Rattle.cells.specs.Aggregates.{skips, five, five-of}
 
 -- ---- cells
 

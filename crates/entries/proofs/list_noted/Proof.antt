@@ -1,8 +1,8 @@
 -- `list_noted` counts the entries, and writes them where there are any and room for all.
 use borrow.Author.Needs.{needs}
 use Rattle.listing.proofs.ListingLaws.{from-last, filled-none, filled-not, filled-all}
-use Rattle.listing.proofs.list_noted.Statement.{statement}
-use Rattle.listing.proofs.list_noted.Tie as tie
+use Rattle.entries.proofs.list_noted.Statement.{statement}
+use Rattle.entries.proofs.list_noted.Tie as tie
 
 pub list-noted-spec : {M : Type 1} → statement M
 list-noted-spec =
