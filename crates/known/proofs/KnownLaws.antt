@@ -9,14 +9,14 @@ use Rattle.paper.proofs.Node.{the-type}
 use Rattle.paper.specs.declared.NodeNo.{NodeNo}
 use Rattle.paper.specs.declared.Node.{Node}
 use Rattle.paper.specs.declared.Node.the-variants as node
-use Rattle.paper.specs.Sets.{Set, none, only, _∪_, _∖_}
-use Rattle.paper.specs.Record.{Sort, condition, term, arguments, items, binders}
+use Rattle.paper.specs.Sets.{Set, none, _∪_, _∖_}
+use Rattle.paper.specs.Record.{condition, term, arguments, items, binders}
 use Rattle.paper.specs.Shape.{references}
 use Rattle.paper.specs.Tree as tree
-use Rattle.paper.specs.Tree.{Condition, Term, Arguments, Items, Binders, Tree, as-condition, as-term, as-arguments, as-items, as-binders, planted}
+use Rattle.paper.specs.Tree.{Arguments, Items, Tree, as-condition, as-term, as-arguments, as-items, as-binders, planted}
 use Rattle.paper.specs.Tree.Arguments.{no-argument, argument}
 use Rattle.paper.specs.Tree.Items.{no-item, item}
-use Rattle.paper.specs.FreeAndRestricted.{named, is-sigil, binder-names, free, term-free, arguments-free, items-free, bare, about, direct, tied, tied-name, restricted, holds-sigil, term-sigil, arguments-sigil, items-sigil}
+use Rattle.paper.specs.FreeAndRestricted.{named, binder-names, free, term-free, arguments-free, items-free, bare, about, direct, tied, tied-name, restricted, holds-sigil, term-sigil, arguments-sigil, items-sigil}
 use Rattle.paper.proofs.Walks.{All}
 use Rattle.paper.proofs.Weights.{of-sort}
 use Rattle.trees.specs.Trees.{is-condition, is-term}

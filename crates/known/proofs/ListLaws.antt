@@ -1,7 +1,7 @@
 -- A list, cell by cell: its facts are those of its terms, joined. Assumes nothing.
-use mathlib.Core.Path.{_≡_, refl, sym, ap, ap₂, _∙_, subst}
+use mathlib.Core.Path.{_≡_, refl, sym, ap, _∙_, subst}
 use mathlib.Core.Logic.{_⊎_, ⊎-elim, inl, inr}
-use mathlib.Core.Bool.{Bool, true, false, true≢false}
+use mathlib.Core.Bool.{true, true≢false}
 use mathlib.Core.List.{List, [], _∷_}
 use Prim.Native.Nat.{ℕ, _<_}
 use types.Run.{OneOf, miss}
@@ -18,7 +18,7 @@ use Rattle.paper.proofs.Walks.{All, all-map}
 use Rattle.paper.proofs.Weights.{of-sort}
 use Rattle.record.specs.Stored.{Has}
 use Rattle.trees.specs.Trees.{tree-of, is-row}
-use Rattle.trees.proofs.Arms.{Child, Arm}
+use Rattle.trees.proofs.Arms.{Child}
 use Rattle.known.specs.declared.Parts.{Parts}
 use Rattle.known.specs.declared.Parts.the-variants as parts
 use Rattle.known.specs.declared.Facts.{Facts}

@@ -1,13 +1,13 @@
 -- A node's row after those of its parts. Assumes nothing.
 use mathlib.Core.Path.{_≡_, refl, sym, ap, _∙_, subst}
-use mathlib.Core.Bool.{Bool, true}
+use mathlib.Core.Bool.{true}
 use mathlib.Core.List.{List, [], _∷_}
 use Prim.Native.Nat.{ℕ, _<_}
 use native.Mathlib.Omega.{arith}
 use lib.ListN.{length}
 use Rattle.paper.specs.declared.Node.{Node}
 use Rattle.paper.specs.Record.{Sort, node-no}
-use Rattle.paper.specs.Shape.{references, names-in}
+use Rattle.paper.specs.Shape.{references}
 use Rattle.paper.proofs.Walks.{All, all-map, all-both}
 use Rattle.record.specs.Stored.{Has}
 use Rattle.trees.specs.Trees.{tree-of, is-row}
@@ -15,7 +15,7 @@ use Rattle.trees.proofs.Arms.{Child, Arm}
 use Rattle.known.specs.declared.Facts.{Facts}
 use Rattle.known.specs.declared.Parts.{Parts}
 use Rattle.known.specs.declared.Parts.the-variants as parts
-use Rattle.known.specs.Known.{Known, known-of, parts-of, nodes-of, own}
+use Rattle.known.specs.Known.{known-of, parts-of, nodes-of, own}
 use Rattle.known.specs.Rows.{meant, Right, has-row, node-of, Sound, Put, Kept, Reaches, Gathered}
 use Rattle.known.proofs.KnownLaws.{planted-known}
 use Rattle.known.proofs.PartLaws.{Held, held, known-arm, reached-in}

@@ -1,16 +1,16 @@
 -- The parts of a node and its references: what is known of the parts of a node that was read, and that nothing but binders is left out. Assumes nothing.
 use mathlib.Core.Path.{_≡_, refl, sym, ap, _∙_, subst}
-use mathlib.Core.Bool.{Bool, true, false, _||_, true≢false}
-use mathlib.Core.List.{List, List·Memᴰ}
+use mathlib.Core.Bool.{true, false, _||_, true≢false}
+use mathlib.Core.List.{List}
 use Prim.Native.Nat.{ℕ, _<_}
 use Rattle.paper.specs.declared.NodeNo.{NodeNo}
 use Rattle.paper.specs.declared.Node.{Node}
 use Rattle.paper.specs.declared.Node.the-variants as node
-use Rattle.paper.specs.Record.{Sort, condition, term, arguments, items, binders}
+use Rattle.paper.specs.Record.{Sort, arguments, items, binders}
 use Rattle.paper.specs.Shape.{references}
 use Rattle.paper.specs.Tree as tree
 use Rattle.paper.specs.Tree.{Tree, planted}
-use Rattle.paper.proofs.Walks.{All, all-map, all-at, all-both}
+use Rattle.paper.proofs.Walks.{All, all-map, all-at}
 use Rattle.paper.proofs.Weights.{of-sort}
 use Rattle.record.specs.Stored.{Has}
 use Rattle.trees.specs.Trees.{tree-of, is-condition, is-term, is-row}

@@ -1,12 +1,11 @@
 -- How rows stay right: what a store and what a call on a part leave behind. Assumes nothing.
 use mathlib.Core.Path.{_≡_, refl, sym, ap, _∙_, subst}
-use mathlib.Core.Logic.{⊎-elim, inl, inr}
 use mathlib.Core.Bool.{Bool, true, false, _||_, _&&_, true≢false}
 use mathlib.Core.List.{List, []}
 use Prim.Native.Nat.{ℕ, _+_, _<_}
 use native.Mathlib.Omega.{arith}
 use lib.Dec.{eqb}
-use lib.ListN.{length, getD, set, length-set}
+use lib.ListN.{length, length-set}
 use lib.Seq.{getD-set-same, getD-set-other}
 use borrow.Author.Tests.{eqb-true, eqb-false}
 use Rattle.paper.specs.Record.{Sort, condition, term}
@@ -14,8 +13,8 @@ use Rattle.record.specs.Stored.{contents, Has}
 use Rattle.trees.specs.Trees.{tree-of, condition-of, term-of, is-condition, is-term}
 use Rattle.trees.proofs.Arms.{Child, down}
 use Rattle.trees.proofs.Sorts.{a-body, a-term}
-use Rattle.known.specs.Known.{Known, condition-known, term-known, known-of}
-use Rattle.known.specs.Rows.{meant, facts-in, facts-at, Right, has-row, Noted, Put, Kept, Reaches, Gathered}
+use Rattle.known.specs.Known.{condition-known, term-known, known-of}
+use Rattle.known.specs.Rows.{meant, facts-in, facts-at, Right, Noted, Put, Kept, Gathered}
 use Rattle.known.specs.declared.Facts.{Facts}
 use Rattle.known.proofs.KnownLaws.{condition-is, term-is}
 use Rattle.known.proofs.Reached.{every-reached}

@@ -8,7 +8,7 @@ use Rattle.paper.specs.declared.NodeNo.{NodeNo}
 use Rattle.paper.specs.declared.Node.{Node}
 use Rattle.paper.specs.declared.Node.the-variants as node
 use Rattle.paper.specs.Sets.{Set, none, only, _∪_, _∖_}
-use Rattle.paper.specs.Tree.{Condition, Term, Arguments, Items, Binders, Tree, a-condition, a-term, arguments, items, binders, an-end, as-term, as-binders}
+use Rattle.paper.specs.Tree.{Condition, Term, Arguments, Items, Tree, a-condition, a-term, arguments, items, binders, an-end, as-term, as-binders}
 use Rattle.paper.specs.Tree.Arguments.{no-argument, argument}
 use Rattle.paper.specs.Tree.Items.{no-item, item}
 use Rattle.paper.specs.FreeAndRestricted.{named, is-sigil, binder-names, free, term-free, bare, about, tied, tied-name, restricted, holds-sigil, term-sigil}

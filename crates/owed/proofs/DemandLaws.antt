@@ -15,20 +15,20 @@ use Rattle.paper.specs.declared.Tied.{Tied}
 use Rattle.paper.specs.declared.Tied.the-variants.{Left, Right, Neither}
 use Rattle.paper.specs.declared.Node.{Node}
 use Rattle.paper.specs.declared.Node.the-variants as node
-use Rattle.paper.specs.Record.{term, pick, node-no}
+use Rattle.paper.specs.Record.{pick, node-no}
 use Rattle.paper.specs.Sets.{Set, none, _∪_, _∖_}
 use Rattle.paper.specs.TurnedAway.{Contents}
 use Rattle.paper.specs.Tree.{Condition, Term, Tree, as-condition, as-term, planted, root}
 use Rattle.paper.specs.Tree.{Condition as cond}
 use Rattle.known.specs.Plain.{plain-arguments, plain}
 use Rattle.known.proofs.RowLaws.{both-true}
-use Rattle.paper.specs.FreeAndRestricted.{named, binder-names, free, term-free, arguments-free, items-free, restricted, tied, holds-sigil}
+use Rattle.paper.specs.FreeAndRestricted.{named, binder-names, free, term-free, restricted, tied, holds-sigil}
 use Rattle.paper.specs.Places.{Spot, condition, operand, Place, asked-at, for-names, gather, findings, found}
 use Rattle.paper.specs.Demands.{comparison-broken, demand-below, demand-broken, demands-part}
 use Rattle.paper.proofs.Walks.{found-at}
 use Rattle.paper.proofs.Exact.{extent-pos, demand-shrinks}
 use Rattle.trees.specs.Trees.{tree-of, condition-of, term-of, binders-of}
-use Rattle.trees.proofs.Arms.{Child, Arm}
+use Rattle.trees.proofs.Arms.{Arm}
 use Rattle.trees.proofs.Shapes as shape
 use Rattle.trees.proofs.Shapes.{Two, Base, Aggregate, sum, count}
 use Rattle.trees.proofs.ByKind.{condition-kinds, no-other, condition-cases, term-cases}

@@ -5,7 +5,7 @@ use mathlib.Core.Logic.{inl, inr}
 use mathlib.Core.Bool.{Bool, true, false, _&&_, true≢false}
 use mathlib.Core.List.{List, [], _∷_}
 use Prim.Native.Nat.{ℕ}
-use types.Run.{OneOf, hit}
+use types.Run.{OneOf}
 use denote.Enum.Declared.{tagOf}
 use mir.Val.{hasKey}
 use Rattle.paper.proofs.Node.{the-type}
@@ -21,8 +21,7 @@ use Rattle.paper.specs.Tree.Term.{Var, Wildcard, Value, Sigil, Array, Arith, Su
 use Rattle.paper.specs.Tree.Arguments.{no-argument, argument}
 use Rattle.paper.specs.Tree.Items.{item}
 use Rattle.paper.specs.Tree.Binders.{no-binder, binder}
-use Rattle.paper.proofs.Walks.{All}
-use Rattle.trees.specs.Trees.{in-terms, is-condition}
+use Rattle.trees.specs.Trees.{in-terms}
 
 -- the kinds that fit a place, by their places in the declaration of `Node`
 abbrev pub condition-kinds : List ℕ

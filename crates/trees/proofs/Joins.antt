@@ -1,6 +1,6 @@
 -- A walk that joins what it finds in the parts of a node: what it finds at a node, from what it finds at the nodes below. Each law is over the walk and the
 -- operation that joins. Assumes nothing.
-use mathlib.Core.Path.{_≡_, refl, sym, ap, ap₂, _∙_}
+use mathlib.Core.Path.{_≡_, sym, ap, ap₂, _∙_}
 use mathlib.Core.Bool.{Bool, true, false, _||_}
 use mathlib.Core.List.{List}
 use Prim.Native.Nat.{ℕ}
@@ -9,7 +9,7 @@ use Rattle.paper.specs.declared.Slot.{Slot}
 use Rattle.paper.specs.declared.Node.{Node}
 use Rattle.paper.specs.declared.Node.the-variants as node
 use Rattle.paper.specs.Tree.{Condition, Term, Arguments, Items, Tree, as-condition, planted}
-use Rattle.paper.specs.Tree.Condition.{And, Or, Not, Past, Since, Exists, Comparison, Predicate, Refine}
+use Rattle.paper.specs.Tree.Condition.{And, Or, Not, Past, Since, Exists, Refine}
 use Rattle.paper.specs.Tree.Term.{Array, Arith}
 use Rattle.paper.specs.Tree.Arguments.{no-argument, argument}
 use Rattle.paper.specs.Tree.Items.{no-item, item}

@@ -12,25 +12,23 @@ use denote.Enum.Declared.{tagOf}
 use Rattle.paper.proofs.Node.{the-type}
 use Rattle.paper.specs.declared.NodeNo.{NodeNo}
 use Rattle.paper.specs.declared.NameNo.{NameNo}
-use Rattle.paper.specs.declared.Slot.{Slot}
 use Rattle.paper.specs.declared.Subject.{Subject}
 use Rattle.paper.specs.declared.Subject.the-variants as subject
 use Rattle.paper.specs.declared.Tied.{Tied}
 use Rattle.paper.specs.declared.Tied.the-variants.{Left, Right, Neither}
 use Rattle.paper.specs.declared.Node.{Node}
 use Rattle.paper.specs.declared.Node.the-variants as node
-use Rattle.paper.specs.Sets.{Set, none, only, _∪_, _∖_}
+use Rattle.paper.specs.Sets.{only, _∪_, _∖_}
 use Rattle.paper.specs.Record.{pick, node-no}
 use Rattle.paper.specs.Shape.{names-in}
-use Rattle.paper.specs.Tree.{Term, Tree, as-condition, as-term, planted}
+use Rattle.paper.specs.Tree.{Term, Tree, as-term, planted}
 use Rattle.paper.specs.Tree.Term.{Var, Wildcard, Value, Sigil, Array, Arith, Sum, Count, AggregateCall}
-use Rattle.paper.specs.FreeAndRestricted.{named, has-wildcard, items-wildcard, bare, ties, equality, tied, tied-name, direct, restricted}
+use Rattle.paper.specs.FreeAndRestricted.{has-wildcard, items-wildcard, bare, ties, equality, tied, tied-name}
 use Rattle.paper.proofs.Walks.{All}
 use Rattle.record.specs.Stored.{contents, Has}
-use Rattle.trees.specs.Trees.{tree-of, condition-of, term-of, arguments-of, in-terms}
+use Rattle.trees.specs.Trees.{tree-of, term-of, in-terms}
 use Rattle.trees.proofs.Arms.{Arm, arm}
-use Rattle.trees.proofs.Shapes.{Anchor, formerly, previous, since}
-use Rattle.trees.proofs.ByKind.{term-kinds, no-other, condition-cases, term-cases, in-terms-cases}
+use Rattle.trees.proofs.ByKind.{term-kinds, no-other, term-cases, in-terms-cases}
 use Rattle.trees.proofs.Joins.{JoinsTerms}
 use Rattle.trees.specs.Terms.{arguments-wildcard, wildcard-in}
 

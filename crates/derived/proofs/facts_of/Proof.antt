@@ -9,7 +9,7 @@ use borrow.Author.Needs.{needs}
 use Rattle.paper.specs.declared.NodeNo.{NodeNo}
 use Rattle.paper.specs.declared.Node.{Node}
 use Rattle.paper.specs.declared.Node.the-variants as node
-use Rattle.paper.specs.Sets.{Set, none, only, _∪_, _∖_}
+use Rattle.paper.specs.Sets.{Set, none, _∪_, _∖_}
 use Rattle.paper.specs.Record.{condition, binders}
 use Rattle.paper.specs.Shape.{references}
 use Rattle.paper.specs.Tree.{Tree, as-binders}
@@ -19,7 +19,7 @@ use Rattle.trees.specs.Trees.{tree-of}
 use Rattle.trees.proofs.Shapes.{met₁, met₂}
 use Rattle.slots.proofs.SlotLaws.{slot-tabled}
 use Rattle.known.specs.Known.{Known, naming, join, apart, bound, loose, known-of, parts-of, nodes-of, own}
-use Rattle.known.specs.Rows.{meant, Right}
+use Rattle.known.specs.Rows.{meant}
 use Rattle.known.proofs.KnownLaws.{nothing-own, opaque-own}
 use Rattle.known.proofs.NodeLaws.{sound-is, first-row, second-row, first-had}
 use Rattle.known.proofs.RowLaws.{read-right}

@@ -1,19 +1,14 @@
 -- `collect_facts` and `collect_list` call each other on the nodes below; the measure is the node's number. First where the ways of `collect_facts` meet, with the
 -- rows of the parts right; then the needs in the order of the code.
-use mathlib.Core.Path.{_≡_, refl, sym, ap, ap₂, _∙_, subst}
+use mathlib.Core.Path.{_≡_, refl, sym, ap, _∙_, subst}
 use mathlib.Core.Logic.{⊎-elim}
 use mathlib.Core.List.{List}
 use native.Mathlib.Omega.{arith}
-use lib.ListN.{length}
 use denote.Ref.{now}
 use borrow.Author.Needs.{needs}
-use Rattle.paper.specs.declared.Node.{Node}
-use Rattle.known.specs.declared.Facts.{Facts}
-use Rattle.known.specs.declared.Parts.the-variants.{Leaf, One, Two, Then}
-use Rattle.known.specs.declared.Parts.the-variants as parts
-use Rattle.known.specs.Known.{join, nothing, parts-of, nodes-of}
-use Rattle.known.specs.Rows.{meant, Gathered}
-use Rattle.known.proofs.RowLaws.{kept-same, kept-then, put-long, read-right}
+use Rattle.known.specs.Known.{join, nothing, parts-of}
+use Rattle.known.specs.Rows.{meant}
+use Rattle.known.proofs.RowLaws.{put-long, read-right}
 use Rattle.known.proofs.NodeLaws.{node-held, room, call, call-list, Came, came-none, came-one, came-two, came-right, finished}
 use Rattle.known.proofs.ListLaws.{Along, along-start, along-step, along-end, parts-held}
 use Prim.Native.Nat.{ℕ, _<_, _≤_}

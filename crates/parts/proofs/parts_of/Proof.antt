@@ -1,6 +1,5 @@
 -- `parts_of` is the definition, kind by kind.
 use mathlib.Core.Path.{sym, ap}
-use borrow.Author.Needs.{needs}
 use Rattle.known.specs.Known.{parts-of}
 use Rattle.known.proofs.KnownLaws.{leaf-parts}
 use Rattle.parts.proofs.parts_of.Statement.{statement}
