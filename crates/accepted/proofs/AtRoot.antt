@@ -9,7 +9,6 @@ use native.Mathlib.Omega.{arith}
 use Rattle.paper.specs.declared.NodeNo.{NodeNo}
 use Rattle.paper.specs.declared.Finding.{Finding}
 use Rattle.names.specs.declared.Names.{Names}
-use Rattle.paper.specs.declared.Answer.the-variants as answer
 use Rattle.paper.specs.declared.Arithmetic.the-variants as arith
 use Rattle.paper.specs.declared.Listing.the-variants as listing
 use Rattle.paper.specs.Record.{pick, node-no}
@@ -21,9 +20,10 @@ use Rattle.paper.specs.Places.{condition, for-names, findings}
 use Rattle.paper.specs.Scoping.{scoping-part}
 use Rattle.paper.specs.Demands.{closedness-broken, closedness-part, demands-part, has-arith}
 use Rattle.paper.specs.TheList.{the-list, pack, packed}
-use Rattle.paper.specs.Questions.{answered, scoping, closedness, demands, arithmetic-of, arithmetic, listing-of, list, buffer-of, list-buffer}
+use Rattle.paper.specs.Questions.{answered, arithmetic-of, arithmetic, listing-of, list, buffer-of, list-buffer}
+use Rattle.paper.proofs.Walks.{All}
 use Rattle.paper.proofs.Lengths.{scoping-length, closedness-length, demands-length, list-length}
-use Rattle.paper.proofs.Fitting.{scoping-fits, closedness-fits, demands-fits}
+use Rattle.paper.proofs.Fitting.{Fits, scoping-fits, closedness-fits, demands-fits}
 use Rattle.names.specs.Words.{mem}
 use Rattle.record.specs.Stored.{contents, Has}
 use Rattle.record.proofs.Verdicts.{Told, counts-are}
@@ -33,8 +33,10 @@ use Rattle.writes.proofs.WriteLaws.{wrote-is, room-is}
 use Rattle.writes.proofs.FirstLaws.{first-told, all-told}
 use Rattle.scoping.specs.Scoped.{scoped}
 use Rattle.owed.specs.Demanded.{demanded}
-use Rattle.listing.specs.Parts.{Last, demands-of, listed, Filled}
-use Rattle.accepted.specs.Ready.{Ready, Reserved}
+use Rattle.listing.specs.declared.Check.{Check}
+use Rattle.listing.specs.declared.Check.the-variants.{Scoping, Closedness, Demands}
+use Rattle.listing.specs.Parts.{Last, demands-of, part-of, listed, Filled}
+use Rattle.accepted.specs.Ready.{Ready, Reserved, Asked, part-asked}
 
 module _ (bytes starts : List ℕ) {k : ℕ} (p : Ready bytes starts k) where
   told : Told bytes (p .names) k
@@ -67,34 +69,47 @@ module _ (bytes starts : List ℕ) {k : ℕ} (p : Ready bytes starts k) where
         record { has = has-root; all = omega arith }
 
     -- what a walk from the root writes is the part
-    abbrev untied : List Finding
-    untied = findings (for-names 28 i (free (condition-of bytes (i .0))))
+    scoped-part : (words : Names) → Reserved bytes words → (seed : Set) → scoped (mem words) (condition (condition-of bytes (i .0))) seed ≡ scoping-part (contents bytes) seed
+    unfolding scoping-part scoped root
+    scoped-part words reserves seed =
+        ap₂ (λ (w : Set) (m : NodeNo). scoped w (condition (condition-of bytes (m .0))) seed) reserves (sym (last-node i d))
 
-    untied-part : untied ≡ closedness-part (contents bytes)
+    untied-part : findings (for-names 28 i (free (condition-of bytes (i .0)))) ≡ closedness-part (contents bytes)
     unfolding closedness-part closedness-broken root
     untied-part = ap (λ (m : NodeNo). findings (for-names 28 m (free (condition-of bytes (m .0))))) (sym (last-node i d))
-
-    pub closedness-room : Room untied 0
-    closedness-room = room-is (sym untied-part) (let l = closedness-length (contents bytes) in record { left = omega arith })
-
-    pub closedness-told : {x count : ℕ} {after : List ℕ} → Wrote untied 0 count (x ∷ []) after → answer-of count (getD after 0 0) ≡ closedness bytes
-    unfolding closedness answered
-    closedness-told w =
-        first-told (closedness-part (contents bytes)) (closedness-fits (contents bytes) (told .formed)) (wrote-is (sym untied-part) w)
-        ∙ sym (ap (answered closedness-part) (told .outcome))
 
     demanded-part : demands-of (condition-of bytes (i .0)) ≡ demands-part (contents bytes)
     unfolding demands-of demanded demands-part root
     demanded-part = ap (λ (m : NodeNo). demands-of (condition-of bytes (m .0))) (sym (last-node i d))
 
-    pub demands-room : Room (demands-of (condition-of bytes (i .0))) 0
-    demands-room = room-is (sym demanded-part) (let l = demands-length (contents bytes) (told .formed) in record { left = omega arith })
+    part-is : (check : Check) → Asked bytes check → part-of check i (condition-of bytes (i .0)) ≡ part-asked check (contents bytes)
+    unfolding part-of part-asked Asked
+    part-is (Scoping seed words) reserves = scoped-part words reserves (mem seed)
+    part-is Closedness _ = untied-part
+    part-is Demands _ = demanded-part
 
-    pub demands-told : {x count : ℕ} {after : List ℕ} → Wrote (demands-of (condition-of bytes (i .0))) 0 count (x ∷ []) after → answer-of count (getD after 0 0) ≡ demands bytes
-    unfolding demands answered
-    demands-told w =
-        first-told (demands-part (contents bytes)) (demands-fits (contents bytes) (told .formed)) (wrote-is (sym demanded-part) w)
-        ∙ sym (ap (answered demands-part) (told .outcome))
+    part-length : (check : Check) → length (part-asked check (contents bytes)) ≤ 131072
+    unfolding part-asked
+    part-length (Scoping seed words) = scoping-length (contents bytes) (told .formed) (mem seed)
+    part-length Closedness = let l = closedness-length (contents bytes) in omega arith
+    part-length Demands = demands-length (contents bytes) (told .formed)
+
+    part-fits : (check : Check) → All Fits (part-asked check (contents bytes))
+    unfolding part-asked
+    part-fits (Scoping seed words) = scoping-fits (contents bytes) (told .formed) (mem seed)
+    part-fits Closedness = closedness-fits (contents bytes) (told .formed)
+    part-fits Demands = demands-fits (contents bytes) (told .formed)
+
+    module _ (check : Check) (asked : Asked bytes check) where
+      pub part-room : Room (part-of check i (condition-of bytes (i .0))) 0
+      part-room = room-is (sym (part-is check asked)) (let l = part-length check in record { left = omega arith })
+
+      pub part-told : {x count : ℕ} {after : List ℕ} → Wrote (part-of check i (condition-of bytes (i .0))) 0 count (x ∷ []) after
+          → answer-of count (getD after 0 0) ≡ answered (part-asked check) (read bytes)
+      unfolding answered
+      part-told w =
+          first-told (part-asked check (contents bytes)) (part-fits check) (wrote-is (sym (part-is check asked)) w)
+          ∙ sym (ap (answered (part-asked check)) (told .outcome))
 
     pub arithmetic-told : arithmetic bytes ≡ pick (has-arith (condition-of bytes (i .0))) arith.Yes arith.No
     unfolding arithmetic arithmetic-of root
@@ -102,28 +117,13 @@ module _ (bytes starts : List ℕ) {k : ℕ} (p : Ready bytes starts k) where
         ap arithmetic-of (told .outcome) ∙ ap (λ (m : NodeNo). pick (has-arith (condition-of bytes (m .0))) arith.Yes arith.No) (last-node i d)
 
     module _ (words : Names) (reserves : Reserved bytes words) where
-      scoped-part : (seed : Set) → scoped (mem words) (condition (condition-of bytes (i .0))) seed ≡ scoping-part (contents bytes) seed
-      unfolding scoping-part scoped root
-      scoped-part seed =
-          ap₂ (λ (w : Set) (m : NodeNo). scoped w (condition (condition-of bytes (m .0))) seed) reserves (sym (last-node i d))
-
-      pub scoping-room : (seed : Set) → Room (scoped (mem words) (condition (condition-of bytes (i .0))) seed) 0
-      scoping-room seed = room-is (sym (scoped-part seed)) (let l = scoping-length (contents bytes) (told .formed) seed in record { left = omega arith })
-
-      pub scoping-told : (seed : Set) {x count : ℕ} {after : List ℕ} → Wrote (scoped (mem words) (condition (condition-of bytes (i .0))) seed) 0 count (x ∷ []) after
-          → answer-of count (getD after 0 0) ≡ scoping bytes seed
-      unfolding scoping answered
-      scoping-told seed w =
-          first-told (scoping-part (contents bytes) seed) (scoping-fits (contents bytes) (told .formed) seed) (wrote-is (sym (scoped-part seed)) w)
-          ∙ sym (ap (answered (λ c. scoping-part c seed)) (told .outcome))
-
       -- the three parts
       abbrev written : List Finding
       written = listed (mem words) i (condition-of bytes (i .0))
 
       list-parts : written ≡ the-list (contents bytes)
       unfolding listed the-list
-      list-parts = ap₂ {C = List Finding} _++_ (scoped-part none) (ap₂ {C = List Finding} _++_ untied-part demanded-part)
+      list-parts = ap₂ {C = List Finding} _++_ (scoped-part words reserves none) (ap₂ {C = List Finding} _++_ untied-part demanded-part)
 
       pub list-room : Room written 0
       list-room = room-is (sym list-parts) (let l = list-length (contents bytes) (told .formed) in record { left = omega arith })

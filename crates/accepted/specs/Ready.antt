@@ -3,11 +3,15 @@ use Prim.Native.Nat.{ℕ}
 use mathlib.Core.Path.{_≡_}
 use mathlib.Core.List.{List}
 use Rattle.paper.specs.declared.Verdict.the-variants.{Counts}
-use Rattle.paper.specs.TurnedAway.{verdict, read}
-use Rattle.paper.specs.Scoping.{reserved}
+use Rattle.paper.specs.declared.Finding.{Finding}
+use Rattle.paper.specs.TurnedAway.{Contents, verdict, read}
+use Rattle.paper.specs.Scoping.{reserved, scoping-part}
+use Rattle.paper.specs.Demands.{closedness-part, demands-part}
 use Rattle.names.specs.declared.Names.{Names}
 use Rattle.names.specs.Words.{mem}
 use Rattle.record.specs.Stored.{contents, Stored}
+use Rattle.listing.specs.declared.Check.{Check}
+use Rattle.listing.specs.declared.Check.the-variants.{Scoping, Closedness, Demands}
 
 -- the bytes are accepted with so many nodes, and the array has where each begins
 pub record Ready (bytes starts : List ℕ) (nodes : ℕ) : Type 0 where
@@ -18,3 +22,15 @@ pub record Ready (bytes starts : List ℕ) (nodes : ℕ) : Type 0 where
 -- these are the reserved words among the bytes' names
 abbrev pub Reserved : List ℕ → Names → Type 0
 Reserved bytes words = mem words ≡ reserved (contents bytes .names)
+
+-- the part of the definitions that a check asks for
+unfoldable pub part-asked : Check → Contents → List Finding
+part-asked (Scoping seed words) c = scoping-part c (mem seed)
+part-asked Closedness c = closedness-part c
+part-asked Demands c = demands-part c
+
+-- the words that scoping is asked with are the reserved ones
+unfoldable pub Asked : List ℕ → Check → Type 0
+Asked bytes (Scoping seed words) = Reserved bytes words
+Asked bytes Closedness = Unit {0}
+Asked bytes Demands = Unit {0}

@@ -1,9 +1,8 @@
 // What each question answers to bytes that the reader accepted.
 use checks::arith::condition_has_arith;
-use entries::demand_entries;
 use entries::list_entries;
-use entries::open_entries;
-use entries::scoping_entries;
+use entries::part_entries;
+use listing::Check;
 use names::Names;
 use paper::Answer;
 use paper::Arithmetic;
@@ -14,9 +13,9 @@ ghost use mathlib.Core.Path.{_≡_};
 ghost use lib.ListN.{length};
 ghost use Prim.Native.Nat.{_-_, _<_, _≤_};
 ghost use Rattle.paper.specs.Record.{node-no};
-ghost use Rattle.paper.specs.Questions.{scoping as scoping-answer, closedness as closedness-answer, demands as demands-answer, arithmetic as arithmetic-answer, list as list-answer, list-buffer};
-ghost use Rattle.names.specs.Words.{mem};
-ghost use Rattle.accepted.specs.Ready.{Ready, Reserved};
+ghost use Rattle.paper.specs.TurnedAway.{read};
+ghost use Rattle.paper.specs.Questions.{answered, arithmetic as arithmetic-answer, list as list-answer, list-buffer};
+ghost use Rattle.accepted.specs.Ready.{Ready, Reserved, Asked, part-asked};
 
 // The last node.
 fn root(nodes: usize) -> NodeNo
@@ -26,34 +25,14 @@ fn root(nodes: usize) -> NodeNo
     NodeNo((nodes - 1) as u16)
 }
 
-// The first entry of 20 to 27 where the seed's names are in scope; or accepted.
-pub fn scoping(bytes: &[u8], starts: &[u16; 512], nodes: usize, seed: Names, words: Names) -> Answer
-    requires { ⌜ Ready (now bytes) (now starts) nodes × Reserved (now bytes) words ⌝ }
-    ensures { λ r. ⌜ r ≡ scoping-answer (now (bytes .entry)) (mem seed) ⌝ }
+// The first entry of the part that a check asks for; or accepted.
+pub fn checked(bytes: &[u8], starts: &[u16; 512], nodes: usize, check: Check) -> Answer
+    requires { ⌜ Ready (now bytes) (now starts) nodes × Asked (now bytes) check ⌝ }
+    ensures { λ r. ⌜ r ≡ answered (part-asked check) (read (now (bytes .entry))) ⌝ }
 {
     let mut one = [0u32; 1];
-    let count = scoping_entries(bytes, starts, root(nodes), seed, words, &mut one);
+    let count = part_entries(bytes, starts, root(nodes), check, &mut one);
     first(count, one[0])
-}
-
-// The first entry of 28; or accepted.
-pub fn closedness(bytes: &[u8], starts: &[u16; 512], nodes: usize) -> Answer
-    requires { ⌜ Ready (now bytes) (now starts) nodes ⌝ }
-    ensures { λ r. ⌜ r ≡ closedness-answer (now (bytes .entry)) ⌝ }
-{
-    let mut one = [0u32; 1];
-    let open = open_entries(bytes, starts, root(nodes), &mut one);
-    first(open, one[0])
-}
-
-// The first entry of 30 to 32; or accepted.
-pub fn demands(bytes: &[u8], starts: &[u16; 512], nodes: usize) -> Answer
-    requires { ⌜ Ready (now bytes) (now starts) nodes ⌝ }
-    ensures { λ r. ⌜ r ≡ demands-answer (now (bytes .entry)) ⌝ }
-{
-    let mut one = [0u32; 1];
-    let owed = demand_entries(bytes, starts, root(nodes), &mut one);
-    first(owed, one[0])
 }
 
 // Whether arithmetic is an operand of a comparison.

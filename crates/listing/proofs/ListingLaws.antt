@@ -18,7 +18,11 @@ use Rattle.record.specs.Stored.{Has}
 use Rattle.record.proofs.StoredLaws.{few}
 use Rattle.trees.specs.Trees.{tree-of, is-condition}
 use Rattle.trees.proofs.Arms.{last-body}
-use Rattle.listing.specs.Parts.{Last, demands-of, listed, Filled}
+use Rattle.names.specs.declared.Names.{Names}
+use Rattle.names.specs.Words.{mem}
+use Rattle.listing.specs.declared.Check.{Check}
+use Rattle.listing.specs.declared.Check.the-variants.{Scoping, Closedness, Demands}
+use Rattle.listing.specs.Parts.{Last, demands-of, part-of, listed, Filled}
 
 pub no-demands : (c : Condition) → holds-sigil c ≡ true → demands-of c ≡ []
 unfolding demands-of
@@ -27,6 +31,20 @@ no-demands c e = rw e
 pub demands-are : (c : Condition) {tied : Set} → tied ≡ none → holds-sigil c ≡ false → demands-of c ≡ demanded true (condition c) tied
 unfolding demands-of
 demands-are c d e = rw (d, e)
+
+-- the part of each check
+module _ {check : Check} (n : NodeNo) (c : Condition) where
+  pub part-scoping : {seed words : Names} → check ≡ Scoping seed words → part-of check n c ≡ scoped (mem words) (condition c) (mem seed)
+  unfolding part-of
+  part-scoping e = ap (λ (k : Check). part-of k n c) e
+
+  pub part-closedness : check ≡ Closedness → part-of check n c ≡ findings (for-names 28 n (free c))
+  unfolding part-of
+  part-closedness e = ap (λ (k : Check). part-of k n c) e
+
+  pub part-demands : check ≡ Demands → part-of check n c ≡ demands-of c
+  unfolding part-of
+  part-demands e = ap (λ (k : Check). part-of k n c) e
 
 pub listed-are : (words : Set) (n : NodeNo) (c : Condition) {scope : Set} → scope ≡ none
     → listed words n c ≡ scoped words (condition c) scope ++ (findings (for-names 28 n (free c)) ++ demands-of c)

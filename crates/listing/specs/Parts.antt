@@ -14,12 +14,21 @@ use lib.ListN.{length}
 use Rattle.record.specs.Stored.{contents, Has}
 use Rattle.writes.specs.Written.{Wrote}
 use Rattle.scoping.specs.Scoped.{scoped}
+use Rattle.names.specs.Words.{mem}
 use Rattle.owed.specs.Demanded.{demanded}
+use Rattle.listing.specs.declared.Check.{Check}
+use Rattle.listing.specs.declared.Check.the-variants.{Scoping, Closedness, Demands}
 
 unfoldable pub demands-of : Condition → List Finding
 demands-of c = pick (holds-sigil c) [] (demanded true (condition c) none)
 
--- with these words reserved, where the condition is this node
+-- the part that a check asks for, where the condition is this node
+unfoldable pub part-of : Check → NodeNo → Condition → List Finding
+part-of (Scoping seed words) n c = scoped (mem words) (condition c) (mem seed)
+part-of Closedness n c = findings (for-names 28 n (free c))
+part-of Demands n c = demands-of c
+
+-- with these words reserved
 unfoldable pub listed : Set → NodeNo → Condition → List Finding
 listed words n c = scoped words (condition c) none ++ (findings (for-names 28 n (free c)) ++ demands-of c)
 

@@ -1,4 +1,4 @@
-// The three parts of the list, one after the other.
+// The three parts of the list: one of them, or one after the other.
 use checks::closed::check_leaf_closed;
 use demands::check_chain;
 use names::Names;
@@ -12,7 +12,14 @@ ghost use Rattle.record.specs.Stored.{Has};
 ghost use Rattle.known.specs.Rows.{Noted};
 ghost use Rattle.trees.specs.Trees.{tree-of, condition-of, is-condition};
 ghost use Rattle.writes.specs.Written.{Room, Wrote};
-ghost use Rattle.listing.specs.Parts.{demands-of, listed};
+ghost use Rattle.listing.specs.Parts.{demands-of, part-of, listed};
+
+// What one part of the list is asked for.
+pub enum Check {
+    Scoping { seed: Names, words: Names },
+    Closedness,
+    Demands,
+}
 
 // 30 to 32; none if the condition holds a sigil.
 pub fn check_demands(
@@ -32,6 +39,28 @@ pub fn check_demands(
     }
     let tied = names::empty();
     check_chain(bytes, starts, rows, i, tied, true, out, at)
+}
+
+// 20 to 27 with the seed's names in scope, or 28, or 30 to 32.
+pub fn write_part(
+    bytes: &[u8],
+    starts: &[u16; 512],
+    rows: &[[u64; 5]],
+    i: NodeNo,
+    check: Check,
+    out: &mut [u32],
+) -> usize
+    requires { ⌜ Has (now bytes) (now starts) (i .0) × Noted (now bytes) (now rows) × (is-condition (tree-of (now bytes) (i .0)) ≡ true) ⌝ }
+    requires { ⌜ Room (part-of check i (condition-of (now bytes) (i .0))) 0 ⌝ }
+    ensures { λ r. ⌜ Wrote (part-of check i (condition-of (now (bytes .entry)) (i .0))) 0 r (now (out .entry)) (now (out .exit)) ⌝ }
+{
+    match check {
+        Check::Scoping { seed, words } => {
+            check_condition(bytes, starts, rows, i, seed, words, out, 0)
+        }
+        Check::Closedness => check_leaf_closed(bytes, rows, i, out, 0),
+        Check::Demands => check_demands(bytes, starts, rows, i, out, 0),
+    }
 }
 
 // 20 to 27 with nothing in scope, then 28, then 30 to 32.

@@ -1,4 +1,6 @@
 // The public questions. Any bytes may be asked about.
+use accepted::checked;
+use listing::Check;
 use names::Names;
 use paper::Answer;
 use paper::Arithmetic;
@@ -23,7 +25,11 @@ pub fn scoping(bytes: &[u8], seed: Names) -> Answer
         return passed_answer(v);
     };
     let words = r.arena.reserved;
-    accepted::scoping(bytes, &r.arena.starts, nodes, seed, words)
+    let check = Check::Scoping {
+        seed: seed,
+        words: words,
+    };
+    checked(bytes, &r.arena.starts, nodes, check)
 }
 
 // A refusal of the reader; the first entry of 28; or accepted.
@@ -35,7 +41,7 @@ pub fn closedness(bytes: &[u8]) -> Answer
     let Verdict::Counts { names: _, nodes } = v else {
         return passed_answer(v);
     };
-    accepted::closedness(bytes, &r.arena.starts, nodes)
+    checked(bytes, &r.arena.starts, nodes, Check::Closedness)
 }
 
 // A refusal of the reader; the first entry of 30 to 32; or accepted.
@@ -47,7 +53,7 @@ pub fn demands(bytes: &[u8]) -> Answer
     let Verdict::Counts { names: _, nodes } = v else {
         return passed_answer(v);
     };
-    accepted::demands(bytes, &r.arena.starts, nodes)
+    checked(bytes, &r.arena.starts, nodes, Check::Demands)
 }
 
 // A refusal of the reader; or whether arithmetic is an operand of a comparison.

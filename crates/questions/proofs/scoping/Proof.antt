@@ -1,6 +1,8 @@
 -- `scoping` answers as the definitions do, for all bytes and every seed.
 use mathlib.Core.Path.{sym, ap, _∙_}
 use borrow.Author.Needs.{needs}
+use Rattle.paper.specs.Questions.{scoping}
+use Rattle.accepted.specs.Ready.{Asked, part-asked}
 use Rattle.refusals.specs.Passed.{answer-passed}
 use Rattle.questions.proofs.ByVerdict.{scoping-refused, ready, reserves}
 use Rattle.questions.proofs.scoping.Statement.{statement}
@@ -12,8 +14,13 @@ returns c =
     let refusal = c .before .enum-told .given .1 in
     c .passed-answer .ensures ∙ ap answer-passed refusal ∙ sym (scoping-refused _ _ (c .before .before .before .read .ensures) refusal _)
 
-scoping-requires : tie.Need-scoping-requires
-scoping-requires c κs =
+returns-2 : tie.Need-returns-2
+unfolding scoping part-asked
+returns-2 c = c .checked .ensures
+
+checked-requires : tie.Need-checked-requires
+unfolding Asked
+checked-requires c κs =
     let v = c .before .before .before .before in
     (ready _ _ (v .before .before .read .ensures) (v .v .given .1), reserves _ _ (v .before .before .read .ensures) (v .v .given .1))
 
@@ -26,5 +33,5 @@ scoping-spec =
     (λ c. search needs)
     (λ c κs. search needs)
     returns
-    scoping-requires
-    (λ c. c .scoping .ensures))
+    checked-requires
+    returns-2)

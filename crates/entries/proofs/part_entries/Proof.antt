@@ -1,11 +1,11 @@
--- `open_entries` has a row for each node: 32 of them, or 512.
+-- `part_entries` has a row for each node: 32 of them, or 512.
 use borrow.Author.Needs.{needs}
 use Rattle.listing.proofs.ListingLaws.{in-all-rows}
-use Rattle.entries.proofs.open_entries.Statement.{statement}
-use Rattle.entries.proofs.open_entries.Tie as tie
+use Rattle.entries.proofs.part_entries.Statement.{statement}
+use Rattle.entries.proofs.part_entries.Tie as tie
 
-pub open-entries-spec : {M : Type 1} → statement M
-open-entries-spec =
+pub part-entries-spec : {M : Type 1} → statement M
+part-entries-spec =
     tie.close
     (tie.spec
     (λ c. search needs)

@@ -1,11 +1,11 @@
--- `demand_noted` notes the facts of the nodes, and walks over them.
+-- `part_noted` notes the facts of the nodes, and walks over them.
 use borrow.Author.Needs.{needs}
 use Rattle.listing.proofs.ListingLaws.{from-last}
-use Rattle.entries.proofs.demand_noted.Statement.{statement}
-use Rattle.entries.proofs.demand_noted.Tie as tie
+use Rattle.entries.proofs.part_noted.Statement.{statement}
+use Rattle.entries.proofs.part_noted.Tie as tie
 
-pub demand-noted-spec : {M : Type 1} → statement M
-demand-noted-spec =
+pub part-noted-spec : {M : Type 1} → statement M
+part-noted-spec =
     tie.close
     (tie.spec
     (λ c κs. search needs)
