@@ -1,5 +1,5 @@
 // The rows, and over them one part of the list, or the whole list.
-use facts::note;
+use facts::collect_facts;
 use listing::Check;
 use listing::write_list;
 use listing::write_part;
@@ -24,7 +24,7 @@ fn part_noted(
     requires { ⌜ Room (part-of check i (condition-of (now bytes) (i .0))) 0 ⌝ }
     ensures { λ r. ⌜ Wrote (part-of check i (condition-of (now (bytes .entry)) (i .0))) 0 r (now (out .entry)) (now (out .exit)) ⌝ }
 {
-    note(bytes, starts, i, rows);
+    collect_facts(bytes, starts, rows, i);
     write_part(bytes, starts, rows, i, check, out)
 }
 
@@ -61,7 +61,7 @@ fn list_noted(
     requires { ⌜ Room (listed (mem words) i (condition-of (now bytes) (i .0))) 0 ⌝ }
     ensures { λ r. ⌜ Filled (listed (mem words) i (condition-of (now (bytes .entry)) (i .0))) r (now (out .entry)) (now (out .exit)) ⌝ }
 {
-    note(bytes, starts, i, rows);
+    collect_facts(bytes, starts, rows, i);
     let mut one = [0u32; 1];
     let count = write_list(bytes, starts, rows, i, words, &mut one);
     if count == 0 {

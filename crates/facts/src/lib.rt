@@ -11,14 +11,14 @@ use together::join_facts;
 use together::nothing;
 ghost use mathlib.Core.Path.{_≡_};
 ghost use mathlib.Core.Bool.{true};
-ghost use Prim.Native.Nat.{_+_, _<_};
+ghost use Prim.Native.Nat.{_<_};
 ghost use lib.ListN.{length, getD};
 ghost use Rattle.paper.specs.declared.Node.the-variants.{ListEnd};
 ghost use Rattle.paper.proofs.Walks.{All};
 ghost use Rattle.record.specs.Stored.{contents, Has};
 ghost use Rattle.trees.specs.Trees.{tree-of, is-row};
 ghost use Rattle.known.specs.Known.{parts-of, nodes-of};
-ghost use Rattle.known.specs.Rows.{Right, Kept, Gathered, Noted};
+ghost use Rattle.known.specs.Rows.{Right, Kept, Gathered};
 
 // Puts a node's row, where the rows of its parts are right.
 fn put_own(bytes: &[u8], starts: &[u16; 512], rows: &mut [[u64; 5]], i: NodeNo, node: Node)
@@ -75,13 +75,4 @@ pub fn collect_facts(bytes: &[u8], starts: &[u16; 512], rows: &mut [[u64; 5]], i
         }
     }
     put_own(bytes, starts, rows, i, node);
-}
-
-// All rows, where the last node is i.
-pub fn note(bytes: &[u8], starts: &[u16; 512], i: NodeNo, rows: &mut [[u64; 5]])
-    requires { ⌜ Has (now bytes) (now starts) (i .0) × (length (contents (now bytes) .nodes) ≡ i .0 + 1) ⌝ }
-    requires { ⌜ i .0 < length (now rows) ⌝ }
-    ensures { λ r. ⌜ Noted (now (bytes .entry)) (now (rows .exit)) ⌝ }
-{
-    collect_facts(bytes, starts, rows, i);
 }

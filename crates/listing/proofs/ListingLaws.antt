@@ -18,6 +18,8 @@ use Rattle.record.specs.Stored.{Has}
 use Rattle.record.proofs.StoredLaws.{few}
 use Rattle.trees.specs.Trees.{tree-of, is-condition}
 use Rattle.trees.proofs.Arms.{last-body}
+use Rattle.known.specs.Rows.{Gathered, Noted}
+use Rattle.known.proofs.RowLaws.{all-noted}
 use Rattle.names.specs.declared.Names.{Names}
 use Rattle.names.specs.Words.{mem}
 use Rattle.listing.specs.declared.Check.{Check}
@@ -51,9 +53,10 @@ pub listed-are : (words : Set) (n : NodeNo) (c : Condition) {scope : Set} → sc
 unfolding listed
 listed-are words n c e = ap (λ (s : Set). scoped words (condition c) s ++ (findings (for-names 28 n (free c)) ++ demands-of c)) (sym e)
 
--- what a walk from the last node asks for
-pub from-last : {P : Type 0} {bytes starts : List ℕ} {i : ℕ} → Last bytes starts i → P → Has bytes starts i × P × (is-condition (tree-of bytes i) ≡ true)
-from-last l p = (l .has, p, last-body (l .has) (l .all))
+-- what a walk from the last node asks for, where the rows were gathered from there
+pub from-last : {bytes starts : List ℕ} {before after : List (List ℕ)} {i : ℕ} → Last bytes starts i × (i < length before) → Gathered bytes before after i
+    → Has bytes starts i × Noted bytes after × (is-condition (tree-of bytes i) ≡ true)
+from-last p g = let l = p .0 in (l .has, all-noted g (l .all) (p .1), last-body (l .has) (l .all))
 
 pub in-all-rows : {bytes starts : List ℕ} {i : ℕ} → Last bytes starts i → i < 512
 in-all-rows {bytes} {i = i} l = few bytes i (l .has .1)
