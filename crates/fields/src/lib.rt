@@ -2,7 +2,7 @@
 ghost use mathlib.Core.Path.{_≡_};
 ghost use Prim.Native.Nat.{_<_};
 ghost use lib.ListN.{getD};
-ghost use Rattle.memory.specs.Fields.{told, sort-of, refer-in, refer-if, out-of-range, checked-in};
+ghost use Rattle.memory.specs.Fields.{told, sort-of, refer-in, refer-if, out-of-range, checked-in, Added};
 use kinds::fits;
 use memory::Row;
 use memory::Told;
@@ -106,7 +106,7 @@ fn first_bad(b: &[u8], range: u8, names: usize) -> bool
 }
 
 // The fields of a record in order, and then its depth: 10 where a child has 64 already.
-pub fn checked<'a>(
+fn checked<'a>(
     b: &[u8],
     row: Row,
     names: usize,
@@ -136,4 +136,27 @@ pub fn checked<'a>(
         };
     }
     two
+}
+
+// The fault of a new node, or 0: then its kind and its depth are put into the arrays, for the nodes that refer to it.
+pub fn add_node(
+    b: &[u8],
+    kind: u8,
+    row: Row,
+    names: usize,
+    own: usize,
+    kinds: &mut [u8; 512],
+    depths: &mut [u8; 512],
+    used: &mut [u8; 512],
+) -> u8
+    requires { ⌜ own < 512 ⌝ }
+    ensures { λ r. ⌜ Added (checked-in (now (kinds .entry)) (now (depths .entry)) (now (b .entry)) row names own (now (used .entry))) kind own (now (kinds .entry)) (now (depths .entry)) r (now (kinds .exit)) (now (depths .exit)) (now (used .exit)) ⌝ }
+{
+    let f = checked(b, row, names, own, kinds, depths, used);
+    if f.fault != 0 {
+        return f.fault;
+    }
+    kinds[own] = kind;
+    depths[own] = f.deep + 1;
+    0
 }

@@ -27,6 +27,7 @@ use Rattle.memory.specs.Fields.{
   after,
   checked-in,
 }
+use Rattle.memory.specs.declared.Row.{Row}
 
 -- ---- one reference
 
@@ -351,3 +352,40 @@ module _ (b : List ℕ) (so : SoFar) where
             (sym (depth-end (ref-if q d u)))
             (then-same (refer-if ks ds b (q .0) (q .1) (length (so .nodes)) d v) (ref-if q d u) (λ d v. pick (leb 64 d) (marked 10 d v) (marked 0 d v))
             (λ d u. check-depth (fine d u)) (ref-same q d v u n) deep-same)))
+
+-- ---- the depth
+
+-- what is found without a fault is less than 64 deep
+abbrev Shallow : Marked → Type 0
+Shallow m = m .fault ≡ 0 → m .deep < 64
+
+after-shallow : (m : Marked) (f : ℕ → List ℕ → Marked) → ((d : ℕ) (u : List ℕ) → Shallow (f d u)) → Shallow (after m f)
+after-shallow m f h = go (ℕ-discrete (m .fault) 0)
+  where
+    go : Dec (m .fault ≡ 0) → Shallow (after m f)
+    go (yes e) = rw (eq-eqb (m .fault) 0 e) (h (m .deep) (m .used))
+    go (no e) = rw (ne-eqb (m .fault) 0 e) (λ z. absurd (e z))
+
+abbrev depth-tested : ℕ → List ℕ → Marked
+depth-tested d u = pick (leb 64 d) (marked 10 d u) (marked 0 d u)
+
+tested-shallow : (d : ℕ) (u : List ℕ) → Shallow (depth-tested d u)
+tested-shallow d u = go (decLt d 64)
+  where
+    go : Dec (d < 64) → Shallow (depth-tested d u)
+    go (yes h) = rw (lt-leb 64 d h) (λ z. h)
+    go (no h) = rw (le-leb 64 d (omega arith)) (λ z. one-zero 9 z)
+
+pub shallow : (ks ds b : List ℕ) (row : Row) (names own : ℕ) (used : List ℕ) → Shallow (checked-in ks ds b row names own used)
+unfolding checked-in
+shallow ks ds b row names own used = go (out-of-range (row .range) (byte b) (second b) names)
+  where
+    one : Marked
+    one = refer-if ks ds b (row .sort1) (row .at1) own 0 used
+
+    two : ℕ → List ℕ → Marked
+    two d u = refer-if ks ds b (row .sort2) (row .at2) own d u
+
+    go : (t : Bool) → Shallow (pick t (marked 7 0 used) (after one (λ d u. after (two d u) depth-tested)))
+    go true = λ z. one-zero 6 z
+    go false = after-shallow one (λ d u. after (two d u) depth-tested) (λ d u. after-shallow (two d u) depth-tested tested-shallow)

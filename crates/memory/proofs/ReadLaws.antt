@@ -17,11 +17,10 @@ use Rattle.paper.specs.Record.{pick, byte, ascii, Kind, Announced, node, announ
 use Rattle.paper.specs.TurnedAway.{Contents, Outcome, refused, accepted, verdict, Seen, unseen, SoFar, nothing-read, Checked, fault, fine, check-all, check-depth, Step, on, stop, read-format, add-node, read-node, read-end, read-record, read-on, read}
 use Rattle.paper.specs.Scoping.{is-word, is-reserved, reserved}
 use Rattle.paper.proofs.Runs.{after-format, after-name, after-node, seen-node, went, went-at, went-named, went-begun, refused-accepted, last-of, closed}
-use Rattle.paper.proofs.WellFormed.{undeep}
 use Rattle.names.specs.Words.{mem}
 use Rattle.names.specs.declared.Names.{Names}
 use Rattle.memory.specs.Rows.{row-for, row-at}
-use Rattle.memory.specs.Fields.{Marks, Shows, Marked, Same, checked-in}
+use Rattle.memory.specs.Fields.{Marks, Shows, Marked, Same, checked-in, Added}
 use Rattle.memory.specs.Heads.{head-by, order-by}
 use Rattle.memory.specs.Naming.{named-in, reserved-as}
 use Rattle.memory.specs.Ends.{ended-in}
@@ -286,13 +285,6 @@ module _ (bytes : List ℕ) (at : ℕ) (begun : Bool) (nn nk : ℕ) (starts : Li
         go r d (fault n) p q = absurd (let z : 0 < n = q .1 in let y : checking .fault ≡ n = q .0 in omega arith)
         go r d (fine deep u) p q = record { row = r; is = d; deep = deep; used-by = u; checked = p; same = q }
 
-    pub shallow : nk ≤ 512 → row-at kind .class ≡ 3 → checking .fault ≡ 0 → checking .deep < 64
-    shallow h c f =
-        let w = fine-node h c f in
-        let z : w .deep < 64 = undeep (check-all (w .row .body) rest (l .so) 0 (l .so .used)) (w .deep) (w .used-by) (w .checked) .1 in
-        let y : checking .deep ≡ w .deep = w .same .1 in
-        omega arith
-
     pub node-turn : nk < 512 → row-at kind .class ≡ 3 → seen ≡ Node → checking .fault ≡ 0
         → Looped bytes (at + 1 + body-bytes (announced kind)) begun nn (nk + 1) (set starts nk at) words table (set ks nk kind) (set ds nk (checking .deep + 1)) (checking .used)
     unfolding add-node body-bytes
@@ -347,12 +339,11 @@ module _ (bytes : List ℕ) (at : ℕ) (begun : Bool) (nn nk : ℕ) (starts : Li
             ∙ ap₂ (start-of bytes) (l .nn-is) (l .nk-is) ∙ ap (start-of bytes nn) (sym j)
 
     -- the same where the code's answer is another name of what was found
-    pub node-turn-by : (m : Marked) → m ≡ checking → nk < 512 → row-at kind .class ≡ 3 → seen ≡ Node → m .fault ≡ 0
-        → Looped bytes (at + 1 + body-bytes (announced kind)) begun nn (nk + 1) (set starts nk at) words table (set ks nk kind) (set ds nk (m .deep + 1)) (m .used)
-    node-turn-by m e h c d f =
-        subst
-        (λ (z : Marked). Looped bytes (at + 1 + body-bytes (announced kind)) begun nn (nk + 1) (set starts nk at) words table (set ks nk kind) (set ds nk (z .deep + 1)) (z .used))
-        (sym e) (node-turn h c d (sym (ap (λ (z : Marked). z .fault) e) ∙ f))
+    pub node-turn-by : (m : Marked) → m ≡ checking → (r : ℕ) (ks-after ds-after used-after : List ℕ) → Added m kind nk ks ds r ks-after ds-after used-after
+        → nk < 512 → row-at kind .class ≡ 3 → seen ≡ Node → r ≡ 0
+        → Looped bytes (at + 1 + body-bytes (announced kind)) begun nn (nk + 1) (set starts nk at) words table ks-after ds-after used-after
+    node-turn-by m e r ks-after ds-after used-after a h c d f =
+        rw (a .kind-put f, a .depth-put f, a .marks-put f, e) (node-turn h c d (sym (a .fault ∙ ap (λ (z : Marked). z .fault) e) ∙ f))
 
     -- ---- the end record
 

@@ -1,6 +1,6 @@
 -- The fields of a node over the reader's arrays: the kinds and depths of the nodes read so far, and a mark for each node that is referred to.
 -- Beside each stands what it says of the definitions' growing lists. Assumes nothing: these are definitions.
-use Prim.Native.Nat.{ℕ, _<_, max}
+use Prim.Native.Nat.{ℕ, _+_, _<_, max}
 use mathlib.Core.Path.{_≡_}
 use mathlib.Core.Bool.{Bool, not, _&&_, _||_}
 use mathlib.Core.List.{List}
@@ -81,3 +81,10 @@ checked-in kinds depths b row names own used =
     (λ d u.
     after (refer-if kinds depths b (row .sort2) (row .at2) own d u)
     (λ d u. pick (leb 64 d) (marked 10 d u) (marked 0 d u))))
+
+-- a new node: the answer is the fault of what was found, and without one the arrays have the node, one deeper than its deepest child
+pub record Added (found : Marked) (kind own : ℕ) (kinds depths : List ℕ) (r : ℕ) (kinds-after depths-after used-after : List ℕ) : Type 0 where
+  pub fault : r ≡ found .fault
+  pub kind-put : r ≡ 0 → kinds-after ≡ set kinds own kind
+  pub depth-put : r ≡ 0 → depths-after ≡ set depths own (found .deep + 1)
+  pub marks-put : r ≡ 0 → used-after ≡ found .used

@@ -1,5 +1,5 @@
 // The walk over the records.
-use fields::checked;
+use fields::add_node;
 use heads::ends::ended;
 use heads::heads::head_of;
 use kinds::row_of;
@@ -9,7 +9,7 @@ use names::Names;
 use octets::byte;
 use octets::wide;
 use paper::Verdict;
-use table::named;
+use table::add_name;
 use table::reserved_with;
 use words::copied;
 ghost use mathlib.Core.Path.{_≡_};
@@ -63,23 +63,20 @@ pub fn scan_records(bytes: &[u8], starts: &mut [u16; 512]) -> Scanned
             }
             Head::Name => {
                 let n = copied(body);
-                let number = named(n, &table, nn);
-                if number != 0 {
-                    return refused(number, at, reserved);
+                let fault = add_name(n, &mut table, nn);
+                if fault != 0 {
+                    return refused(fault, at, reserved);
                 }
                 reserved = reserved_with(reserved, n, nn);
-                table[nn] = n;
                 nn = nn + 1;
                 at = next;
             }
             Head::Node => {
-                let f = checked(body, row, nn, nk, &kinds, &depths, &mut used);
-                if f.fault != 0 {
-                    return refused(f.fault, at, reserved);
+                let fault = add_node(body, kind, row, nn, nk, &mut kinds, &mut depths, &mut used);
+                if fault != 0 {
+                    return refused(fault, at, reserved);
                 }
                 starts[nk] = at as u16;
-                kinds[nk] = kind;
-                depths[nk] = f.deep + 1;
                 nk = nk + 1;
                 at = next;
             }

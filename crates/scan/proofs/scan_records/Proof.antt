@@ -1,6 +1,6 @@
 -- `scan_records` meets its contract: the invariant says what the arrays hold of the records read so far, and each arm cites the law of its turn.
 -- Assumes nothing.
-use mathlib.Core.Path.{_≡_, sym, ap, _∙_}
+use mathlib.Core.Path.{_≡_, sym, ap, ap₂, _∙_}
 use mathlib.Core.List.{List}
 use Prim.Native.Nat.{ℕ, _+_, _≤_, _<_, _-_}
 use native.Mathlib.Omega.{arith}
@@ -11,11 +11,11 @@ use lib.Seq.{take-all}
 use Rattle.paper.specs.declared.Verdict.the-variants.{Refused}
 use Rattle.paper.specs.Record.{Announced, announced, body-bytes}
 use Rattle.memory.specs.Rows.{row-for, row-at}
-use Rattle.memory.specs.Fields.{Marked, told, checked-in}
+use Rattle.memory.specs.Fields.{Marked, checked-in}
 use Rattle.memory.specs.Heads.{head-by}
 use Rattle.memory.specs.declared.Row.{Row}
 use Rattle.memory.proofs.KindLaws.{row-length, class-name}
-use Rattle.memory.proofs.ReadLaws.{Looped, counts, out, bad-turn, format-bad, format-turn, name-bad, name-turn, shallow, node-bad, node-turn-by, end-verdict, end-holds, refused-scan, loop-start}
+use Rattle.memory.proofs.ReadLaws.{Looped, counts, out, bad-turn, format-bad, format-turn, name-bad, name-turn, node-bad, node-turn-by, end-verdict, end-holds, refused-scan, loop-start}
 use Rattle.scan.proofs.scan_records.Statement.{statement}
 use Rattle.scan.proofs.scan_records.Tie as tie
 
@@ -83,27 +83,24 @@ module _ (k : tie.After-copied Inv-loop μ-loop) where
   copied-is : k .copied .result ≡ take 24 (drop (v-at (k .before .before .before) + 1) (bytes (k .before .before .before)))
   copied-is = rw (part (k .before .before .before)) at (k .copied .ensures)
 
--- the fields that were checked
-module _ (k : tie.After-checked Inv-loop μ-loop) where
+-- what was found of the node that was added
+module _ (k : tie.After-add-node Inv-loop μ-loop) where
   abbrev at-head : tie.After-head-of Inv-loop μ-loop
   at-head = k .before .before .before .before .before .before
 
-  abbrev marks : List ℕ
-  marks = k .checked .last .1 .1 .1 .1 .1 .1 .0
-
-  abbrev found : Marked
-  found =
-      checked-in (at-head .before .before .before .before .before .before .loop .kinds) (at-head .before .before .before .before .before .before .loop .depths) (drop (v-at at-head + 1) (bytes at-head)) (row-at (kind-here at-head))
+  abbrev finds : List ℕ → Row → Marked
+  finds b row =
+      checked-in (at-head .before .before .before .before .before .before .loop .kinds) (at-head .before .before .before .before .before .before .loop .depths) b row
       (at-head .before .before .before .before .before .before .loop .nn) (at-head .before .before .before .before .before .before .loop .nk) (at-head .before .before .before .before .before .before .loop .used)
 
-  checked-is : told (k .checked .result) marks ≡ found
-  checked-is = rw (← row-is at-head, ← part at-head) (k .checked .ensures)
+  abbrev found : Marked
+  found = finds (drop (v-at at-head + 1) (bytes at-head)) (row-at (kind-here at-head))
 
-  fault-is : k .checked .result .fault ≡ found .fault
-  fault-is = ap (λ (m : Marked). m .fault) checked-is
+  found-is : finds (take (length (bytes at-head) - (v-at at-head + 1)) (drop (v-at at-head + 1) (bytes at-head))) (at-head .before .before .row-of .result) ≡ found
+  found-is = ap₂ finds (part at-head) (row-is at-head)
 
-  deep-is : k .checked .result .deep ≡ found .deep
-  deep-is = ap (λ (m : Marked). m .deep) checked-is
+  fault-is : k .add-node .result ≡ found .fault
+  fault-is = k .add-node .ensures .fault ∙ ap (λ (m : Marked). m .fault) found-is
 
 empty-requires : tie.Need-empty-requires Inv-loop μ-loop
 empty-requires c κs = tt
@@ -182,8 +179,8 @@ enum-told-2 c = search needs
 copied-requires : tie.Need-copied-requires Inv-loop μ-loop
 copied-requires c κs = rw (part (c .before .before)) (name-room c .1)
 
-named-requires : tie.Need-named-requires Inv-loop μ-loop
-named-requires c κs = let z = name-room (c .before .before) .2 in omega arith
+add-name-requires : tie.Need-add-name-requires Inv-loop μ-loop
+add-name-requires c κs = name-room (c .before .before) .2
 
 refused-requires-3 : tie.Need-refused-requires-3 Inv-loop μ-loop
 refused-requires-3 c κs = tt
@@ -192,17 +189,11 @@ returns-3 : tie.Need-returns-3 Inv-loop μ-loop
 returns-3 c =
     let d = c .before .before .before .before .before .before .before in
     let z = name-room (c .before .before .before .before .before) .2 in
-    let n = rw (copied-is (c .before .before .before .before)) at (c .before .before .named .ensures) in
+    let n = rw (copied-is (c .before .before .before .before)) at (c .before .before .add-name .ensures .0) in
     refused-scan _ _ _ _ _ (name-bad _ _ _ _ _ _ _ _ _ _ _ (d .before .before .before .before .before .before .loop .inv) (inside d) (omega arith) (sym (head-is d) ∙ c .before .before .before .before .before .enum-told2 .given .1) (λ e. c .before .if2 .taken (n ∙ e))) (c .refused3 .ensures ∙ ap (λ (m : ℕ). Refused m (v-at d)) n)
 
 reserved-with-requires : tie.Need-reserved-with-requires Inv-loop μ-loop
 reserved-with-requires c κs = name-room (c .before .before .before .before) .2
-
-mul-table : tie.Need-mul-table Inv-loop μ-loop
-mul-table c = let z = name-room (c .before .before .before .before .before) .2 in omega arith
-
-array-set-from-table : tie.Need-array-set-from-table Inv-loop μ-loop
-array-set-from-table c = name-room (c .before .before .before .before .before) .2
 
 add-nn : tie.Need-add-nn Inv-loop μ-loop
 add-nn c = let z = name-room (c .before .before .before .before .before) .2 in omega arith
@@ -215,64 +206,48 @@ loop-again-2 c =
     let d = c .before .before .before .before .before .before .before in
     let r = name-room (c .before .before .before .before .before) in
     let i = copied-is (c .before .before .before .before) in
-    let n = rw i at (c .before .before .named .ensures) in
+    let n = rw i at (c .before .before .add-name .ensures .0) in
     let m = rw i at (c .reserved-with .ensures) in
-    rw (len-is d, i) (name-turn _ _ _ _ _ _ _ _ _ _ _ (d .before .before .before .before .before .before .loop .inv) (inside d) (c .reserved-with .result) (sym (head-is d) ∙ c .before .before .before .before .before .enum-told2 .given .1) (r .0) (r .2) (sym n ∙ c .before .if2 .left) m)
+    rw (len-is d, c .before .before .add-name .ensures .1, i) (name-turn _ _ _ _ _ _ _ _ _ _ _ (d .before .before .before .before .before .before .loop .inv) (inside d) (c .reserved-with .result) (sym (head-is d) ∙ c .before .before .before .before .before .enum-told2 .given .1) (r .0) (r .2) (sym n ∙ c .before .if2 .left) m)
 
 enum-told-3 : tie.Need-enum-told-3 Inv-loop μ-loop
 enum-told-3 c = search needs
 
-checked-requires : tie.Need-checked-requires Inv-loop μ-loop
-checked-requires c κs = node-room (c .before .before .before) .1
+add-node-requires : tie.Need-add-node-requires Inv-loop μ-loop
+add-node-requires c κs = node-room (c .before .before .before) .1
 
 refused-requires-4 : tie.Need-refused-requires-4 Inv-loop μ-loop
 refused-requires-4 c κs = tt
 
 returns-4 : tie.Need-returns-4 Inv-loop μ-loop
 returns-4 c =
-    let d = c .before .before .before .before .before .before .before .before .before in
-    let b = c .before .before .before in
-    let r = node-room (c .before .before .before .before .before .before .before) in
-    refused-scan _ _ _ _ _ (node-bad _ _ _ _ _ _ _ _ _ _ _ (d .before .before .before .before .before .before .loop .inv) (inside d) (let z = r .1 in omega arith) (r .0) (sym (head-is d) ∙ c .before .before .before .before .before .before .before .enum-told3 .given .1) (λ e. c .before .if3 .taken (fault-is b ∙ e))) (c .refused4 .ensures ∙ ap (λ (m : ℕ). Refused m (v-at d)) (fault-is b))
+    let d = c .before .before .before .before .before .before .before .before in
+    let b = c .before .before in
+    let r = node-room (c .before .before .before .before .before .before) in
+    refused-scan _ _ _ _ _ (node-bad _ _ _ _ _ _ _ _ _ _ _ (d .before .before .before .before .before .before .loop .inv) (inside d) (let z = r .1 in omega arith) (r .0) (sym (head-is d) ∙ c .before .before .before .before .before .before .enum-told3 .given .1) (λ e. c .before .if3 .taken (fault-is b ∙ e))) (c .refused4 .ensures ∙ ap (λ (m : ℕ). Refused m (v-at d)) (fault-is b))
 
 cast-starts : tie.Need-cast-starts Inv-loop μ-loop
 cast-starts c =
-    let i = c .before .before .before .before .before .before .before .before .before .before .before .before .before .before .loop .inv in let n = i .near in let q = counts _ _ _ _ _ _ _ _ _ _ _ i in omega arith
+    let i = c .before .before .before .before .before .before .before .before .before .before .before .before .before .loop .inv in let n = i .near in let q = counts _ _ _ _ _ _ _ _ _ _ _ i in omega arith
 
 mul-starts : tie.Need-mul-starts Inv-loop μ-loop
-mul-starts c = let h = node-room (c .before .before .before .before .before .before) .1 in omega arith
+mul-starts c = let h = node-room (c .before .before .before .before .before) .1 in omega arith
 
 element-write-starts : tie.Need-element-write-starts Inv-loop μ-loop
-element-write-starts c = node-room (c .before .before .before .before .before .before) .1
-
-array-write-kinds : tie.Need-array-write-kinds Inv-loop μ-loop
-array-write-kinds c = node-room (c .before .before .before .before .before .before) .1
-
-add-depths : tie.Need-add-depths Inv-loop μ-loop
-add-depths c =
-    let d = c .before .before .before .before .before .before .before .before .before in
-    let b = c .before .before .before in
-    let r = node-room (c .before .before .before .before .before .before .before) in
-    let z = shallow _ _ _ _ _ _ _ _ _ _ _ (d .before .before .before .before .before .before .loop .inv) (inside d) (let y = r .1 in omega arith) (r .0) (sym (fault-is b) ∙ c .before .if3 .left) in
-    let y = deep-is b in
-    omega arith
-
-array-write-depths : tie.Need-array-write-depths Inv-loop μ-loop
-array-write-depths c = node-room (c .before .before .before .before .before .before .before) .1
+element-write-starts c = node-room (c .before .before .before .before .before) .1
 
 add-nk : tie.Need-add-nk Inv-loop μ-loop
-add-nk c = let h = node-room (c .before .before .before .before .before .before .before) .1 in omega arith
+add-nk c = let h = node-room (c .before .before .before .before .before) .1 in omega arith
 
 loop-less-3 : tie.Need-loop-less-3 Inv-loop μ-loop
 loop-less-3 c = omega arith
 
 loop-again-3 : tie.Need-loop-again-3 Inv-loop μ-loop
 loop-again-3 c =
-    let d = c .before .before .before .before .before .before .before .before .before in
-    let b = c .before .before .before in
-    let r = node-room (c .before .before .before .before .before .before .before) in
+    let d = c .before .before .before .before .before .before .before in
+    let r = node-room (c .before .before .before .before .before) in
     rw (len-is d)
-    (node-turn-by _ _ _ _ _ _ _ _ _ _ _ (d .before .before .before .before .before .before .loop .inv) (inside d) (told (b .checked .result) (marks b)) (checked-is b) (r .1) (r .0) (sym (head-is d) ∙ c .before .before .before .before .before .before .before .enum-told3 .given .1) (c .before .if3 .left))
+    (node-turn-by _ _ _ _ _ _ _ _ _ _ _ (d .before .before .before .before .before .before .loop .inv) (inside d) _ (found-is (c .before)) _ _ _ _ (c .before .add-node .ensures) (r .1) (r .0) (sym (head-is d) ∙ c .before .before .before .before .before .enum-told3 .given .1) (c .if3 .left))
 
 enum-told-4 : tie.Need-enum-told-4 Inv-loop μ-loop
 enum-told-4 c = search needs
@@ -325,25 +300,20 @@ scan-records-spec =
     loop-again
     enum-told-2
     copied-requires
-    named-requires
+    add-name-requires
     refused-requires-3
     returns-3
     reserved-with-requires
-    mul-table
-    array-set-from-table
     add-nn
     loop-less-2
     loop-again-2
     enum-told-3
-    checked-requires
+    add-node-requires
     refused-requires-4
     returns-4
     cast-starts
     mul-starts
     element-write-starts
-    array-write-kinds
-    add-depths
-    array-write-depths
     add-nk
     loop-less-3
     loop-again-3
