@@ -8,7 +8,7 @@ use paper::Node;
 use paper::NodeNo;
 use record::access::node_at;
 use rows::read::is_plain;
-use slots::binder_names;
+use slots::without_binders;
 ghost use mathlib.Core.Path.{_≡_};
 ghost use mathlib.Core.Bool.{true};
 ghost use Rattle.paper.specs.Places.{condition, operand};
@@ -52,7 +52,7 @@ pub fn check_chain(
         | Node::Exists(_, _, b)
         | Node::Refine(b, _) => {
             let inner = tied_first(bytes, starts, rows, i, node, tied);
-            let further = asked_first(bytes, starts, i, node, tied);
+            let further = asked_first(node);
             check_chain(bytes, starts, rows, b, inner, further, out, p)
         }
         Node::Comparison(_, l, r) => {
@@ -84,8 +84,7 @@ pub fn descend_nested_chains(
             descend_nested_chains(bytes, starts, rows, r, tied, out, p)
         }
         Node::Sum(_, binders, body) | Node::Count(binders, body) => {
-            let own = binder_names(bytes, starts, binders);
-            let inner = names::minus(tied, own);
+            let inner = without_binders(bytes, starts, tied, binders);
             check_chain(bytes, starts, rows, body, inner, true, out, at)
         }
         _ => at,

@@ -35,7 +35,7 @@ use Rattle.trees.proofs.ByKind.{condition-kinds, no-other, condition-cases, ter
 use Rattle.writes.specs.Written.{Room, Wrote}
 use native.Mathlib.Nat.{le-refl}
 use Rattle.writes.proofs.WriteLaws.{wrote-then, wrote-is, room-is, room-first, room-rest}
-use Rattle.owed.specs.Demanded.{place-below, demanded, owed, owed-compared}
+use Rattle.owed.specs.Demanded.{place-below, FirstAsked, demanded, owed, owed-compared}
 
 -- ---- from a place on
 
@@ -146,14 +146,20 @@ module _ (ties : Set) {bytes starts : List ℕ} {i : ℕ} where
   unfolding planted as-condition demand-below place-below
   first-since a e g = g ∙ ap₂ _∪_ refl e ∙ sym (at-place (λ (p : Place). p .names) 0 a)
 
-  pub first-exists : {own inner : Set} {s : Slot} {y : ℕ} {b : NodeNo} → Arm bytes starts i (node.Exists s y b) → own ≡ named s → inner ≡ ties ∖ own → inner ≡ place-below 0 (condition-of bytes i) ties .names
+  pub first-exists : {inner : Set} {s : Slot} {y : ℕ} {b : NodeNo} → Arm bytes starts i (node.Exists s y b) → inner ≡ ties ∖ named s → inner ≡ place-below 0 (condition-of bytes i) ties .names
   unfolding planted as-condition demand-below place-below
-  first-exists a e g = g ∙ ap₂ _∖_ refl e ∙ sym (at-place (λ (p : Place). p .names) 0 a)
+  first-exists a e = e ∙ sym (at-place (λ (p : Place). p .names) 0 a)
 
   pub second-and : {given grown : Set} {l r : NodeNo} → Arm bytes starts i (node.And l r) → given ≡ restricted (condition-of bytes (l .0)) → grown ≡ ties ∪ given
       → grown ≡ place-below 1 (condition-of bytes i) ties .names
   unfolding planted as-condition demand-below place-below
   second-and a e g = g ∙ ap₂ _∪_ refl e ∙ sym (at-place (λ (p : Place). p .names) 1 a)
+
+  -- whether the first part is asked, as the kind of an equal node says
+  pub first-is-asked : {asked : Bool} {m k : Node} → Arm bytes starts i m → k ≡ m → FirstAsked k asked
+      → asked ≡ place-below 0 (condition-of bytes i) ties .asked
+  first-is-asked a e says =
+      says _ _ _ ∙ ap (λ (z : Node). place-below 0 (as-condition (planted (tree-of bytes) (node-no i) z)) ties .asked) e ∙ sym (at-place (λ (p : Place). p .asked) 0 a)
 
   pub below-comparison : {o : ℕ} {l r : NodeNo} → Arm bytes starts i (node.Comparison o l r)
       → below-it (condition-of bytes i) ties ≡ demanded true (operand (term-of bytes (l .0))) ties ++ demanded true (operand (term-of bytes (r .0))) ties
@@ -305,7 +311,7 @@ same-second ties t n =
 abbrev asked-kinds : List ℕ
 asked-kinds = 0 ∷ 1 ∷ 3 ∷ 4 ∷ 5 ∷ 6 ∷ 7 ∷ 8 ∷ 10 ∷ 11 ∷ 12 ∷ 13 ∷ 14 ∷ 15 ∷ 16 ∷ 17 ∷ 18 ∷ 19 ∷ 20 ∷ 21 ∷ 22 ∷ 23 ∷ 24 ∷ 25 ∷ 26 ∷ 27 ∷ 28 ∷ []
 
-first-asked : (ties : Set) (t : ℕ → Tree) (n : NodeNo) (m : Node) → OneOf asked-kinds (tagOf the-type m) → place-below 0 (as-condition (planted t n m)) ties .asked ≡ true
+pub first-asked : (ties : Set) (t : ℕ → Tree) (n : NodeNo) (m : Node) → OneOf asked-kinds (tagOf the-type m) → place-below 0 (as-condition (planted t n m)) ties .asked ≡ true
 unfolding demand-below place-below
 first-asked ties t n =
     condition-cases t n (λ m z. OneOf asked-kinds (tagOf the-type m) → place-below 0 z ties .asked ≡ true)
@@ -315,7 +321,7 @@ first-asked ties t n =
 abbrev unasked-kinds : List ℕ
 unasked-kinds = 2 ∷ 9 ∷ []
 
-first-unasked : (ties : Set) (t : ℕ → Tree) (n : NodeNo) (m : Node) → OneOf unasked-kinds (tagOf the-type m) → place-below 0 (as-condition (planted t n m)) ties .asked ≡ false
+pub first-unasked : (ties : Set) (t : ℕ → Tree) (n : NodeNo) (m : Node) → OneOf unasked-kinds (tagOf the-type m) → place-below 0 (as-condition (planted t n m)) ties .asked ≡ false
 unfolding demand-below place-below
 first-unasked ties t n =
     condition-cases t n (λ m z. OneOf unasked-kinds (tagOf the-type m) → place-below 0 z ties .asked ≡ false)
@@ -330,9 +336,3 @@ module _ (ties : Set) {bytes starts : List ℕ} {i : ℕ} {m : Node} (a : Arm by
 
   pub second-same : OneOf same-second-kinds (tagOf the-type m) → ties ≡ place-below 1 (condition-of bytes i) ties .names
   second-same h = sym (at-place ties (λ (p : Place). p .names) 1 a ∙ same-second ties _ _ _ h)
-
-  pub asked-below : OneOf asked-kinds (tagOf the-type m) → true ≡ place-below 0 (condition-of bytes i) ties .asked
-  asked-below h = sym (at-place ties (λ (p : Place). p .asked) 0 a ∙ first-asked ties _ _ _ h)
-
-  pub unasked-below : OneOf unasked-kinds (tagOf the-type m) → false ≡ place-below 0 (condition-of bytes i) ties .asked
-  unasked-below h = sym (at-place ties (λ (p : Place). p .asked) 0 a ∙ first-unasked ties _ _ _ h)

@@ -1,20 +1,26 @@
 -- The entries of demands from a place on, and those of one condition. Assumes nothing: these are definitions.
+use mathlib.Core.Path.{_≡_}
 use mathlib.Core.Bool.{Bool}
 use mathlib.Core.List.{List}
 use Prim.Native.Nat.{ℕ}
 use lib.ListN.{getD}
 use Rattle.paper.specs.declared.NodeNo.{NodeNo}
 use Rattle.paper.specs.declared.Finding.{Finding}
+use Rattle.paper.specs.declared.Node.{Node}
 use Rattle.paper.specs.declared.Tied.{Tied}
 use Rattle.paper.specs.declared.Tied.the-variants.{Left, Right, Neither}
 use Rattle.paper.specs.Sets.{Set, _∪_, _∖_}
-use Rattle.paper.specs.Tree.{Condition}
+use Rattle.paper.specs.Tree.{Condition, Tree, as-condition, planted}
 use Rattle.paper.specs.Places.{Spot, Place, condition, asked-at, for-names, gather, findings, found}
 use Rattle.paper.specs.Demands.{demand-below, demand-broken}
 
 -- the first place below a condition, or the second, where these names are tied at the condition; its own place where there is none
 unfoldable pub place-below : ℕ → Condition → Set → Place
 place-below k c tied = getD (demand-below (asked-at (condition c) tied)) k (asked-at (condition c) tied)
+
+-- whether the first place below a condition is asked is said by the node that the condition is planted from, whatever lies below and whatever is tied
+abbrev pub FirstAsked : Node → Bool → Type 0
+FirstAsked m asked = (before : ℕ → Tree) (n : NodeNo) (tied : Set) → asked ≡ place-below 0 (as-condition (planted before n m)) tied .asked
 
 -- whether the place is asked, what stands there, and what is tied
 unfoldable pub demanded : Bool → Spot → Set → List Finding

@@ -6,7 +6,7 @@ use paper::Tied;
 use rows::read::collect_free;
 use rows::read::collect_range_restricted;
 use rows::read::collect_term_var;
-use slots::slot_name;
+use slots::without_slot;
 use vars::eq_restricted_var;
 use writes::emit;
 ghost use mathlib.Core.Path.{_≡_};
@@ -21,7 +21,7 @@ ghost use Rattle.record.specs.Stored.{contents, Has};
 ghost use Rattle.known.specs.Rows.{Noted};
 ghost use Rattle.trees.specs.Trees.{condition-of};
 ghost use Rattle.writes.specs.Written.{Room, Wrote};
-ghost use Rattle.owed.specs.Demanded.{place-below, owed, owed-compared};
+ghost use Rattle.owed.specs.Demanded.{place-below, FirstAsked, owed, owed-compared};
 
 // A rule's entry at a node for each name that must be tied and is not.
 fn reject_unmet_var(
@@ -141,10 +141,7 @@ pub fn tied_first(
             let given = collect_range_restricted(bytes, rows, r);
             names::union(tied, given)
         }
-        Node::Exists(slot, _, _) => {
-            let own = slot_name(slot);
-            names::minus(tied, own)
-        }
+        Node::Exists(slot, _, _) => without_slot(tied, slot),
         _ => tied,
     }
 }
@@ -171,11 +168,9 @@ pub fn tied_second(
     }
 }
 
-// Whether the first part of a condition is asked: not below Not, and not the base of a refinement.
-pub fn asked_first(bytes: &[u8], starts: &[u16; 512], i: NodeNo, node: Node, tied: Names) -> bool
-    requires { ⌜ Has (now bytes) (now starts) (i .0) ⌝ }
-    requires { ⌜ node ≡ getD (contents (now bytes) .nodes) (i .0) ListEnd ⌝ }
-    ensures { λ r. ⌜ r ≡ place-below 0 (condition-of (now (bytes .entry)) (i .0)) (mem tied) .asked ⌝ }
+// Whether the first part of a condition is asked, which its kind says: not below Not, and not the base of a refinement.
+pub fn asked_first(node: Node) -> bool
+    ensures { λ r. ⌜ FirstAsked node r ⌝ }
 {
     match node {
         Node::Not(_) | Node::Refine(_, _) => false,

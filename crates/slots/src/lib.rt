@@ -5,6 +5,7 @@ use paper::NodeNo;
 use paper::Slot;
 use record::access::node_at;
 ghost use mathlib.Core.Path.{_≡_};
+ghost use Rattle.paper.specs.Sets.{_∪_, _∖_};
 ghost use Rattle.paper.specs.FreeAndRestricted.{named, is-sigil, binder-names};
 ghost use Rattle.names.specs.Words.{mem};
 ghost use Rattle.record.specs.Stored.{Has};
@@ -31,6 +32,24 @@ pub fn slot_name(slot: Slot) -> Names
     }
 }
 
+// The names, and that of a slot.
+pub fn with_slot(others: Names, slot: Slot) -> Names
+    requires { ⌜ Tabled slot ⌝ }
+    ensures { λ r. ⌜ mem r ≡ mem others ∪ named slot ⌝ }
+{
+    let name = slot_name(slot);
+    names::union(others, name)
+}
+
+// The names, without that of a slot.
+pub fn without_slot(others: Names, slot: Slot) -> Names
+    requires { ⌜ Tabled slot ⌝ }
+    ensures { λ r. ⌜ mem r ≡ mem others ∖ named slot ⌝ }
+{
+    let name = slot_name(slot);
+    names::minus(others, name)
+}
+
 // The named binders of an aggregate's list.
 pub fn binder_names(bytes: &[u8], starts: &[u16; 512], i: NodeNo) -> Names
     requires { ⌜ Has (now bytes) (now starts) (i .0) ⌝ }
@@ -45,4 +64,22 @@ pub fn binder_names(bytes: &[u8], starts: &[u16; 512], i: NodeNo) -> Names
         }
         _ => names::empty(),
     }
+}
+
+// The names, and those of an aggregate's binders.
+pub fn with_binders(bytes: &[u8], starts: &[u16; 512], others: Names, i: NodeNo) -> Names
+    requires { ⌜ Has (now bytes) (now starts) (i .0) ⌝ }
+    ensures { λ r. ⌜ mem r ≡ mem others ∪ binder-names (binders-of (now (bytes .entry)) (i .0)) ⌝ }
+{
+    let own = binder_names(bytes, starts, i);
+    names::union(others, own)
+}
+
+// The names, without those of an aggregate's binders.
+pub fn without_binders(bytes: &[u8], starts: &[u16; 512], others: Names, i: NodeNo) -> Names
+    requires { ⌜ Has (now bytes) (now starts) (i .0) ⌝ }
+    ensures { λ r. ⌜ mem r ≡ mem others ∖ binder-names (binders-of (now (bytes .entry)) (i .0)) ⌝ }
+{
+    let own = binder_names(bytes, starts, i);
+    names::minus(others, own)
 }

@@ -1,13 +1,12 @@
 -- `check_chain` and `descend_nested_chains` write what is demanded from a condition and from an operand on. The measure is the node's number. What each arm
 -- writes, by the law of its kind, stands first, so that a wrong arm is refused there; then the needs in the order of the code.
-use mathlib.Core.Path.{_≡_, refl, sym, ap₂, _∙_}
+use mathlib.Core.Path.{_≡_, refl, sym, _∙_}
 use mathlib.Core.Logic.{⊎-elim}
 use denote.Ref.{now}
 use native.Mathlib.Omega.{arith}
 use borrow.Author.Needs.{needs}
 use Rattle.paper.specs.declared.Node.{Node}
 use Rattle.paper.specs.declared.Node.the-variants as node
-use Rattle.paper.specs.Sets.{_∪_, _∖_}
 use Rattle.names.specs.Words.{mem}
 use Rattle.trees.specs.Trees.{condition-of}
 use Rattle.trees.proofs.Arms.{Arm, arm}
@@ -16,7 +15,7 @@ use Rattle.trees.proofs.Shapes as shape
 use Rattle.trees.proofs.Shapes.{Two, Base, Aggregate, sum, count, of-two, of-base, of-aggregate, met₁, met₂}
 use Rattle.writes.specs.Written.{Room}
 use Rattle.writes.proofs.WriteLaws.{wrote-none, wrote-then, wrote-is, room-is, room-first, room-rest}
-use Rattle.owed.proofs.DemandLaws.{plain-demanded, below-it, wrote-own-first, room-own, room-below, below-two, below-base, below-comparison, below-none, operand-arith, operand-aggregate, operand-none}
+use Rattle.owed.proofs.DemandLaws.{plain-demanded, below-it, wrote-own-first, room-own, room-below, below-two, below-base, first-is-asked, below-comparison, below-none, operand-arith, operand-aggregate, operand-none}
 use Prim.Native.Nat.{ℕ, _<_}
 use borrow.Fn.Kinds.{In}
 use borrow.Fn.PlainCycle.{Measures, is, falls, and}
@@ -27,8 +26,7 @@ use Rattle.owed.proofs.check_own_demands.Reads as check-own-demands-reads
 use Rattle.owed.proofs.tied_first.Reads as tied-first-reads
 use Rattle.owed.proofs.tied_second.Reads as tied-second-reads
 use Rattle.rows.proofs.read.is_plain.Reads as is-plain-reads
-use Rattle.slots.proofs.binder_names.Reads as binder-names-reads
-use Rattle.names.proofs.minus.Reads as minus-reads
+use Rattle.slots.proofs.without_binders.Reads as without-binders-reads
 use Rattle.record.proofs.access.node_at.Reads as node-at-reads
 use Rattle.demands.proofs.check_chain.Kinds as check-chain-kinds
 use Rattle.demands.proofs.+check_chain+descend_nested_chains.Lts-check_chain as check-chain-lts
@@ -81,10 +79,8 @@ operand-claims t = (
   node-at-reads.Learnt,
   operand-below t,
   descend-nested-chains.Post,
-  binder-names-reads.Asked,
-  binder-names-reads.Learnt,
-  minus-reads.Asked,
-  minus-reads.Learnt,
+  without-binders-reads.Asked,
+  without-binders-reads.Learnt,
   chain-below t,
   check-chain.Post,
 )
@@ -151,7 +147,7 @@ base-writes : (t : ℕ) → check-chain-lts.Need-returns-4 (chain-claims t) (cha
 base-writes t c =
     let a = chain-arm t (c .before .before .before .before .before .before .before .before .before .before .before) refl in
     wrote-own-first _ _ _ (c .before .before .before .before .before .before .before .before .before .check-own-demands .ensures)
-    (wrote-is (below-base _ (base t (c .before .before .before .before .before .before)) a (c .before .before .before .before .before .tied-first .ensures) (c .before .before .before .before .asked-first .ensures)) (c .before .before .check-chain .ensures))
+    (wrote-is (below-base _ (base t (c .before .before .before .before .before .before)) a (c .before .before .before .before .before .tied-first .ensures) (first-is-asked _ a (base-node t (c .before .before .before .before .before .before)) (c .before .before .before .before .asked-first .ensures))) (c .before .before .check-chain .ensures))
 
 two-writes : (t : ℕ) → check-chain-lts.Need-returns-5 (chain-claims t) (chain-at t) check-chain.Post
 two-writes t c =
@@ -171,9 +167,8 @@ other-operand-writes t c =
 
 aggregate-writes : (t : ℕ) → descend-nested-chains-lts.Need-returns-3 (operand-claims t) (operand-at t) descend-nested-chains.Post
 aggregate-writes t c =
-    let a = operand-arm t (c .before .before .before .before .before .before .before) refl in
-    let inner = c .before .before .before .before .minus .ensures ∙ ap₂ _∖_ refl (c .before .before .before .before .before .binder-names .ensures) in
-    wrote-is (operand-aggregate _ (aggregate t (c .before .before .before .before .before .before)) a inner) (c .before .before .check-chain .ensures)
+    let a = operand-arm t (c .before .before .before .before .before .before) refl in
+    wrote-is (operand-aggregate _ (aggregate t (c .before .before .before .before .before)) a (c .before .before .before .before .without-binders .ensures)) (c .before .before .check-chain .ensures)
 
 pub +check-chain+descend-nested-chains-spec : {M : Type 1} → statement M
 +check-chain+descend-nested-chains-spec =
@@ -195,8 +190,8 @@ pub +check-chain+descend-nested-chains-spec : {M : Type 1} → statement M
     (λ c κs. let a = chain-arm t (c .before .before .before .before .before .before .before .before) (c .before .before .node9 .given .1) in let d = under (a .children .0) (c .before .before .before .before .before .before .before .before .before .before .before .before .before .pre .0) (c .before .before .before .before .before .before .before .before .before .before .before .before .before .pre .1 .0 .1) in (d .0, (d .1, room-first _ _ (room-is (below-comparison _ a) (chain-room t (c .before .before .before .before))))))
     (λ c κs. let a = chain-arm t (c .before .before .before .before .before .before .before .before .before .before .before .before) (c .before .before .before .before .before .before .node9 .given .1) in let d = under (a .children .1 .0) (c .before .before .before .before .before .before .before .before .before .before .before .before .before .before .before .before .before .pre .0) (c .before .before .before .before .before .before .before .before .before .before .before .before .before .before .before .before .before .pre .1 .0 .1) in let w = c .before .before .before .descend-nested-chains .ensures in (d .0, (d .1, room-rest _ _ w (omega (arith, w .total)) (room-is (below-comparison _ a) (chain-room t (c .before .before .before .before .before .before .before .before))))))
     (λ c κs. ((c .before .before .before .before .before .before .before .before .before .before .pre .1 .0 .0, c .before .before .before .before .before .before .before .before .before .before .pre .1 .0 .1), base-node t (c) ∙ c .before .before .before .before .before .node-at .ensures))
-    (λ c κs. (c .before .before .before .before .before .before .before .before .before .before .before .pre .1 .0 .0, base-node t (c .before) ∙ c .before .before .before .before .before .before .node-at .ensures))
-    (λ c κs. let a = chain-arm t (c .before .before .before .before .before .before .before .before) refl in let s = base t (c .before .before .before) in let d = under-body (of-base s a) (c .before .before .before .before .before .before .before .before .before .before .before .before .before .pre .0) (c .before .before .before .before .before .before .before .before .before .before .before .before .before .pre .1 .0 .1) in (d .0, (d .1, room-is (below-base _ s a (c .before .before .tied-first .ensures) (c .before .asked-first .ensures)) (chain-room t (c .before .before .before .before)))))
+    (λ c κs. search needs)
+    (λ c κs. let a = chain-arm t (c .before .before .before .before .before .before .before .before) refl in let s = base t (c .before .before .before) in let d = under-body (of-base s a) (c .before .before .before .before .before .before .before .before .before .before .before .before .before .pre .0) (c .before .before .before .before .before .before .before .before .before .before .before .before .before .pre .1 .0 .1) in (d .0, (d .1, room-is (below-base _ s a (c .before .before .tied-first .ensures) (first-is-asked _ a (base-node t (c .before .before .before)) (c .before .asked-first .ensures))) (chain-room t (c .before .before .before .before)))))
     (λ c κs. ((c .before .before .before .before .before .before .before .before .before .before .pre .1 .0 .0, c .before .before .before .before .before .before .before .before .before .before .pre .1 .0 .1), two-node t (c) ∙ c .before .before .before .before .before .node-at .ensures))
     (λ c κs. ((c .before .before .before .before .before .before .before .before .before .before .before .pre .1 .0 .0, c .before .before .before .before .before .before .before .before .before .before .before .pre .1 .0 .1), two-node t (c .before) ∙ c .before .before .before .before .before .before .node-at .ensures))
     (λ c κs. let a = chain-arm t (c .before .before .before .before .before .before .before .before) refl in let s = two t (c .before .before .before) in let d = under-body (of-two s a .0) (c .before .before .before .before .before .before .before .before .before .before .before .before .before .pre .0) (c .before .before .before .before .before .before .before .before .before .before .before .before .before .pre .1 .0 .1) in (d .0, (d .1, room-first _ _ (room-is (below-two _ s a (c .before .before .tied-first2 .ensures) (c .before .tied-second .ensures)) (chain-room t (c .before .before .before .before))))))
@@ -230,12 +225,11 @@ pub +check-chain+descend-nested-chains-spec : {M : Type 1} → statement M
     (λ c. search needs)
     (λ c. search needs)
     (λ c κs. of-aggregate (aggregate t (c)) (operand-arm t (c .before) refl) .0 .has)
-    (λ c κs. search needs)
-    (λ c κs. let a = operand-arm t (c .before .before .before .before) refl in let d = under-body (of-aggregate (aggregate t (c .before .before .before)) a .1) (c .before .before .before .before .before .before .before .pre .0) (c .before .before .before .before .before .before .before .pre .1 .0 .1) in (
+    (λ c κs. let a = operand-arm t (c .before .before .before) refl in let d = under-body (of-aggregate (aggregate t (c .before .before)) a .1) (c .before .before .before .before .before .before .pre .0) (c .before .before .before .before .before .before .pre .1 .0 .1) in (
       d .0,
       (
         d .1,
-        room-is (operand-aggregate _ (aggregate t (c .before .before .before)) a (c .before .minus .ensures ∙ ap₂ _∖_ refl (c .before .before .binder-names .ensures))) (c .before .before .before .before .before .before .before .pre .1 .1),
+        room-is (operand-aggregate _ (aggregate t (c .before .before)) a (c .before .without-binders .ensures)) (c .before .before .before .before .before .before .pre .1 .1),
       ),
     ))
     (λ c. search needs)

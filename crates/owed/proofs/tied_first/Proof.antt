@@ -22,7 +22,6 @@ tied-first-spec =
     (λ c κs. search needs)
     (λ c. search needs)
     (λ c κs. slot-tabled (c .before .node2 .given .0 .0) (here (c .before .before .before .before) (c .before .node2 .given .1) .tabled))
-    (λ c κs. search needs)
     (λ c. first-since _ (here (c .before .before .before .before .before .before) (c .before .before .before .node .given .1)) (c .before .collect-range-restricted .ensures) (c .union .ensures))
-    (λ c. first-exists _ (here (c .before .before .before .before .before .before) (c .before .before .before .node2 .given .1)) (c .before .slot-name .ensures) (c .minus .ensures))
+    (λ c. first-exists _ (here (c .before .before .before .before .before) (c .before .before .node2 .given .1)) (c .without-slot .ensures))
     (λ c. first-same _ (here (c .before .before) refl) (c .match .keys3)))
