@@ -6,6 +6,8 @@ use owed::tied_first;
 use owed::tied_second;
 use paper::Node;
 use paper::NodeNo;
+use parts::Below;
+use parts::entered_below;
 use record::access::node_at;
 use rows::read::is_plain;
 use slots::without_binders;
@@ -39,27 +41,24 @@ pub fn check_chain(
     }
     let node = node_at(bytes, starts, i);
     let p = check_own_demands(bytes, starts, rows, i, node, tied, asked, out, at);
-    match node {
-        Node::And(l, r) | Node::Or(l, r) | Node::Since(l, r, _) => {
+    let below = entered_below(node);
+    match below {
+        Below::Nothing => p,
+        Below::Condition(b) => {
+            let inner = tied_first(bytes, starts, rows, i, node, tied);
+            let further = asked_first(node);
+            check_chain(bytes, starts, rows, b, inner, further, out, p)
+        }
+        Below::Conditions(l, r) => {
             let first = tied_first(bytes, starts, rows, i, node, tied);
             let second = tied_second(bytes, starts, rows, i, node, tied);
             let q = check_chain(bytes, starts, rows, l, first, true, out, p);
             check_chain(bytes, starts, rows, r, second, true, out, q)
         }
-        Node::Not(b)
-        | Node::Formerly(b, _)
-        | Node::Previous(b, _)
-        | Node::Exists(_, _, b)
-        | Node::Refine(b, _) => {
-            let inner = tied_first(bytes, starts, rows, i, node, tied);
-            let further = asked_first(node);
-            check_chain(bytes, starts, rows, b, inner, further, out, p)
-        }
-        Node::Comparison(_, l, r) => {
+        Below::Operands(l, r) => {
             let q = descend_nested_chains(bytes, starts, rows, l, tied, out, p);
             descend_nested_chains(bytes, starts, rows, r, tied, out, q)
         }
-        _ => p,
     }
 }
 

@@ -29,9 +29,11 @@ use Rattle.paper.proofs.Walks.{found-at}
 use Rattle.paper.proofs.Exact.{extent-pos, demand-shrinks}
 use Rattle.trees.specs.Trees.{tree-of, condition-of, term-of, binders-of}
 use Rattle.trees.proofs.Arms.{Arm}
-use Rattle.trees.proofs.Shapes as shape
-use Rattle.trees.proofs.Shapes.{Two, Base, Aggregate, sum, count}
+use Rattle.trees.proofs.Shapes.{Aggregate, sum, count}
 use Rattle.trees.proofs.ByKind.{condition-kinds, no-other, condition-cases, term-cases}
+use Rattle.parts.specs.declared.Below.{Below}
+use Rattle.parts.specs.declared.Below.the-variants as below
+use Rattle.parts.specs.Entered.{entered-below}
 use Rattle.writes.specs.Written.{Room, Wrote}
 use native.Mathlib.Nat.{le-refl}
 use Rattle.writes.proofs.WriteLaws.{wrote-then, wrote-is, room-is, room-first, room-rest}
@@ -111,6 +113,47 @@ plain-demanded asked (cond.Refine n b l) ties e =
 plain-demanded asked (cond.Tp n s) ties e = absurd (true≢false (sym e))
 plain-demanded asked (cond.Opaque n k y) ties e = absurd (true≢false (sym e))
 
+-- where the walk goes on below a condition: what is found there, with these names tied at the first place and at the second
+module _ (ties : Set) (bytes : List ℕ) where
+  abbrev pub goes-on : (first second : Set) → Bool → Below → List Finding
+  goes-on first second asked below.Nothing = []
+  goes-on first second asked (below.Condition b) = demanded asked (condition (condition-of bytes (b .0))) first
+  goes-on first second asked (below.Conditions l r) = demanded true (condition (condition-of bytes (l .0))) first ++ demanded true (condition (condition-of bytes (r .0))) second
+  goes-on first second asked (below.Operands l r) = demanded true (operand (term-of bytes (l .0))) ties ++ demanded true (operand (term-of bytes (r .0))) ties
+
+  by-kind : (n : NodeNo) (m : Node) → let c = as-condition (planted (tree-of bytes) n m) in
+      below-it c ties ≡ goes-on (place-below 0 c ties .names) (place-below 1 c ties .names) (place-below 0 c ties .asked) (entered-below m)
+  unfolding planted as-condition below-it demand-below place-below entered-below gather
+  by-kind n (node.And l r) = two _ _ refl refl
+  by-kind n (node.Or l r) = two _ _ refl refl
+  by-kind n (node.Not b) = one _ _ refl
+  by-kind n (node.Formerly b w) = one _ _ refl
+  by-kind n (node.Previous b w) = one _ _ refl
+  by-kind n (node.Since l r w) = two _ _ refl refl
+  by-kind n (node.Exists s y b) = one _ _ refl
+  by-kind n (node.Comparison o l r) = two _ _ refl refl
+  by-kind n (node.Predicate a l) = refl
+  by-kind n (node.Refine b l) = one _ _ refl
+  by-kind n (node.Tp s) = refl
+  by-kind n (node.Call y) = refl
+  by-kind n (node.SigilRef y) = refl
+  by-kind n (node.Var x) = refl
+  by-kind n node.Wildcard = refl
+  by-kind n (node.Literal y) = refl
+  by-kind n (node.ScopeField y) = refl
+  by-kind n (node.ContextField y) = refl
+  by-kind n (node.ParamRef k) = refl
+  by-kind n (node.BinderRef k) = refl
+  by-kind n (node.Array l) = refl
+  by-kind n (node.Arith o l r) = refl
+  by-kind n (node.Sum s l b) = refl
+  by-kind n (node.Count l b) = refl
+  by-kind n (node.AggregateCall y) = refl
+  by-kind n node.ListEnd = refl
+  by-kind n (node.ArgumentCell f x l) = refl
+  by-kind n (node.ItemCell x l) = refl
+  by-kind n (node.BinderCell s y l) = refl
+
 module _ (ties : Set) {bytes starts : List ℕ} {i : ℕ} where
   -- ---- below a condition
 
@@ -124,21 +167,10 @@ module _ (ties : Set) {bytes starts : List ℕ} {i : ℕ} where
   named-at : (k : ℕ) {m : Node} {s : Set} → Arm bytes starts i m → s ≡ place-below k (condition-of bytes i) ties .names → s ≡ place-below k (as-condition (planted (tree-of bytes) (node-no i) m)) ties .names
   named-at k a e = e ∙ at-place (λ (p : Place). p .names) k a
 
-  pub below-two : {first second : Set} {l r : NodeNo} {m : Node} → Two l r m → Arm bytes starts i m → first ≡ place-below 0 (condition-of bytes i) ties .names → second ≡ place-below 1 (condition-of bytes i) ties .names
-      → below-it (condition-of bytes i) ties ≡ demanded true (condition (condition-of bytes (l .0))) first ++ demanded true (condition (condition-of bytes (r .0))) second
-  unfolding planted as-condition below-it demand-below place-below
-  below-two shape.and a e f = in-below a ∙ two _ _ (named-at 0 a e) (named-at 1 a f)
-  below-two shape.or a e f = in-below a ∙ two _ _ (named-at 0 a e) (named-at 1 a f)
-  below-two shape.since a e f = in-below a ∙ two _ _ (named-at 0 a e) (named-at 1 a f)
-
-  pub below-base : {inner : Set} {asked : Bool} {b : NodeNo} {m : Node} → Base b m → Arm bytes starts i m → inner ≡ place-below 0 (condition-of bytes i) ties .names
-      → asked ≡ place-below 0 (condition-of bytes i) ties .asked → below-it (condition-of bytes i) ties ≡ demanded asked (condition (condition-of bytes (b .0))) inner
-  unfolding planted as-condition below-it demand-below place-below
-  below-base (shape.body (shape.one shape.not)) a e f = in-below a ∙ one _ _ (named-at 0 a e) ∙ asked-so _ _ (f ∙ at-place (λ (p : Place). p .asked) 0 a)
-  below-base (shape.body (shape.one shape.formerly)) a e f = in-below a ∙ one _ _ (named-at 0 a e) ∙ asked-so _ _ (f ∙ at-place (λ (p : Place). p .asked) 0 a)
-  below-base (shape.body (shape.one shape.previous)) a e f = in-below a ∙ one _ _ (named-at 0 a e) ∙ asked-so _ _ (f ∙ at-place (λ (p : Place). p .asked) 0 a)
-  below-base (shape.body shape.exists) a e f = in-below a ∙ one _ _ (named-at 0 a e) ∙ asked-so _ _ (f ∙ at-place (λ (p : Place). p .asked) 0 a)
-  below-base shape.refine a e f = in-below a ∙ one _ _ (named-at 0 a e) ∙ asked-so _ _ (f ∙ at-place (λ (p : Place). p .asked) 0 a)
+  pub below-entered : {m : Node} {s : Below} {first second : Set} {asked : Bool} → Arm bytes starts i m → s ≡ entered-below m
+      → first ≡ place-below 0 (condition-of bytes i) ties .names → second ≡ place-below 1 (condition-of bytes i) ties .names
+      → asked ≡ place-below 0 (condition-of bytes i) ties .asked → below-it (condition-of bytes i) ties ≡ goes-on ties bytes first second asked s
+  below-entered a e f g h = in-below a ∙ by-kind ties bytes _ _ ∙ sym (rw (e, named-at 0 a f, named-at 1 a g, h ∙ at-place (λ (p : Place). p .asked) 0 a))
 
   -- what is tied below
   pub first-since : {given grown : Set} {l r : NodeNo} {w : ℕ} → Arm bytes starts i (node.Since l r w) → given ≡ restricted (condition-of bytes (r .0))
@@ -155,16 +187,9 @@ module _ (ties : Set) {bytes starts : List ℕ} {i : ℕ} where
   unfolding planted as-condition demand-below place-below
   second-and a e g = g ∙ ap₂ _∪_ refl e ∙ sym (at-place (λ (p : Place). p .names) 1 a)
 
-  -- whether the first part is asked, as the kind of an equal node says
-  pub first-is-asked : {asked : Bool} {m k : Node} → Arm bytes starts i m → k ≡ m → FirstAsked k asked
-      → asked ≡ place-below 0 (condition-of bytes i) ties .asked
-  first-is-asked a e says =
-      says _ _ _ ∙ ap (λ (z : Node). place-below 0 (as-condition (planted (tree-of bytes) (node-no i) z)) ties .asked) e ∙ sym (at-place (λ (p : Place). p .asked) 0 a)
-
-  pub below-comparison : {o : ℕ} {l r : NodeNo} → Arm bytes starts i (node.Comparison o l r)
-      → below-it (condition-of bytes i) ties ≡ demanded true (operand (term-of bytes (l .0))) ties ++ demanded true (operand (term-of bytes (r .0))) ties
-  unfolding planted as-condition below-it demand-below
-  below-comparison a = in-below a ∙ two _ _ refl refl
+  -- whether the first part is asked, as the node says
+  pub first-is-asked : {asked : Bool} {m : Node} → Arm bytes starts i m → FirstAsked m asked → asked ≡ place-below 0 (condition-of bytes i) ties .asked
+  first-is-asked a says = says _ _ _ ∙ sym (at-place (λ (p : Place). p .asked) 0 a)
 
   -- ---- from an operand on
 
@@ -232,23 +257,6 @@ module _ (ties : Set) {bytes starts : List ℕ} {i : ℕ} where
   owed-since a e k = in-owed a ∙ append-nil _ ∙ ap₂ (λ (x y : Set). findings (for-names 32 (node-no i) (x ∖ y))) (sym e) (sym k)
 
 -- ---- the other kinds
-
--- a predicate, a tp, a call, a sigil, and no condition
-abbrev no-child-kinds : List ℕ
-no-child-kinds = 8 ∷ 10 ∷ 11 ∷ 12 ∷ 13 ∷ 14 ∷ 15 ∷ 16 ∷ 17 ∷ 18 ∷ 19 ∷ 20 ∷ 21 ∷ 22 ∷ 23 ∷ 24 ∷ 25 ∷ 26 ∷ 27 ∷ 28 ∷ []
-
-no-child : (ties : Set) (t : ℕ → Tree) (n : NodeNo) (m : Node) → OneOf no-child-kinds (tagOf the-type m) → below-it (as-condition (planted t n m)) ties ≡ []
-unfolding below-it demand-below gather
-no-child ties t n =
-    condition-cases t n (λ m z. OneOf no-child-kinds (tagOf the-type m) → below-it z ties ≡ [])
-    (λ l r h. absurd (miss no-child-kinds 0 tt h)) (λ l r h. absurd (miss no-child-kinds 1 tt h)) (λ b h. absurd (miss no-child-kinds 2 tt h))
-    (λ b w h. absurd (miss no-child-kinds 3 tt h)) (λ b w h. absurd (miss no-child-kinds 4 tt h)) (λ l r w h. absurd (miss no-child-kinds 5 tt h))
-    (λ s y b h. absurd (miss no-child-kinds 6 tt h)) (λ o l r h. absurd (miss no-child-kinds 7 tt h)) (λ a l h. refl)
-    (λ b l h. absurd (miss no-child-kinds 9 tt h)) (λ s h. refl) (λ y h. refl) (λ y h. refl) (λ m e h. refl)
-
-pub below-none : (ties : Set) {bytes starts : List ℕ} {i : ℕ} {m : Node} → Arm bytes starts i m → OneOf no-child-kinds (tagOf the-type m)
-    → below-it (condition-of bytes i) ties ≡ []
-below-none ties a h = in-below ties a ∙ no-child ties _ _ _ h
 
 -- all but Not, Since and a comparison
 abbrev no-demand-kinds : List ℕ

@@ -1,1 +1,2 @@
+pub mod ItselfLaws
 pub mod NestedLaws

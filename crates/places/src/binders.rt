@@ -8,6 +8,7 @@ use slots::slot_name;
 use writes::emit;
 ghost use mathlib.Core.Path.{_≡_};
 ghost use mathlib.Core.Bool.{true};
+ghost use mathlib.Core.List.{_++_};
 ghost use Prim.Native.Nat.{_<_};
 ghost use lib.ListN.{length};
 ghost use Rattle.paper.specs.Record.{pick};
@@ -51,20 +52,22 @@ fn unsafe_name(bytes: &[u8], rows: &[[u64; 5]], slot: Slot, body: NodeNo) -> Nam
     names::minus(own, tied)
 }
 
-// 23, if the slot's name is not restricted in the body.
-pub fn check_exists_safe(
+// 22 and then 23 at the binder of an exists: its name is reserved, or its body does not restrict it.
+pub fn check_exists_binder(
     bytes: &[u8],
     rows: &[[u64; 5]],
     n: NodeNo,
     slot: Slot,
     body: NodeNo,
+    words: Names,
     out: &mut [u32],
     at: usize,
 ) -> usize
     requires { ⌜ Tabled slot × (body .0 < length (contents (now bytes) .nodes)) × Noted (now bytes) (now rows) × (is-condition (tree-of (now bytes) (body .0)) ≡ true) ⌝ }
-    requires { ⌜ Room (findings (for-names 23 n (pick (holds-sigil (condition-of (now bytes) (body .0))) none (named slot ∖ restricted (condition-of (now bytes) (body .0)))))) at ⌝ }
-    ensures { λ r. ⌜ Wrote (findings (for-names 23 n (pick (holds-sigil (condition-of (now (bytes .entry)) (body .0))) none (named slot ∖ restricted (condition-of (now (bytes .entry)) (body .0)))))) at r (now (out .entry)) (now (out .exit)) ⌝ }
+    requires { ⌜ Room (findings (for-names 22 n (named slot ∩ mem words)) ++ findings (for-names 23 n (pick (holds-sigil (condition-of (now bytes) (body .0))) none (named slot ∖ restricted (condition-of (now bytes) (body .0)))))) at ⌝ }
+    ensures { λ r. ⌜ Wrote (findings (for-names 22 n (named slot ∩ mem words)) ++ findings (for-names 23 n (pick (holds-sigil (condition-of (now (bytes .entry)) (body .0))) none (named slot ∖ restricted (condition-of (now (bytes .entry)) (body .0)))))) at r (now (out .entry)) (now (out .exit)) ⌝ }
 {
+    let p = reject_reserved_binder(n, slot, words, out, at);
     let loose = unsafe_name(bytes, rows, slot, body);
-    emit(out, at, 23, n, loose)
+    emit(out, p, 23, n, loose)
 }

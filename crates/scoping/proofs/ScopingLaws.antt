@@ -28,24 +28,19 @@ use Rattle.trees.proofs.Arms.{Arm}
 use Rattle.trees.proofs.Sorts.{at-arguments, at-items}
 use Rattle.trees.proofs.Shapes.{Aggregate, sum, count}
 use Rattle.trees.proofs.ByKind.{condition-cases, term-cases}
-use Rattle.trees.proofs.Joins.{JoinsTwo, PassesOne}
 use Rattle.known.specs.Plain.{plain-argument, plain-arguments, plain}
 use Rattle.known.proofs.RowLaws.{both-true}
 use Rattle.places.specs.Nested.{nested, nested-arguments, nested-items, nested-in}
 use Rattle.places.proofs.NestedLaws.{no-argument-nested, no-item-nested}
 use Rattle.cells.specs.Aggregates.{skips, five, five-of}
+use Rattle.places.specs.Itself.{at-itself, scope-first}
+use Rattle.parts.specs.declared.Below.{Below}
+use Rattle.parts.specs.declared.Below.the-variants as below
+use Rattle.parts.specs.Entered.{entered-below}
 use Rattle.scoping.specs.Scoped.{scoped}
 
--- one run, or two, and then what lies below
 then-one : (a b : List Finding) → a ++ (b ++ []) ≡ a ++ b
 then-one a b = ap (λ (z : List Finding). a ++ z) (append-nil b)
-
-then-two : (a b c : List Finding) → (a ++ (b ++ [])) ++ (c ++ []) ≡ a ++ (b ++ c)
-then-two a b c = ap₂ {C = List Finding} _++_ (then-one a b) (append-nil c) ∙ append-assoc a b c
-
--- Call, SigilRef, and no condition
-abbrev unscoped-kinds : List ℕ
-unscoped-kinds = 11 ∷ 12 ∷ 13 ∷ 14 ∷ 15 ∷ 16 ∷ 17 ∷ 18 ∷ 19 ∷ 20 ∷ 21 ∷ 22 ∷ 23 ∷ 24 ∷ 25 ∷ 26 ∷ 27 ∷ 28 ∷ []
 
 -- what is neither arithmetic nor an array nor an aggregate with a body
 abbrev unentered-kinds : List ℕ
@@ -75,33 +70,12 @@ module _ (words scope : Set) where
   abbrev from : Spot → List Finding
   from s = scoped words s scope
 
-  abbrev below : Spot → List Finding
-  below s = gather (found scope-below (scope-broken words)) (scope-below (asked-at s scope))
+  abbrev found-below : Spot → List Finding
+  found-below s = gather (found scope-below (scope-broken words)) (scope-below (asked-at s scope))
 
-  at : (s : Spot) → from s ≡ gather findings (scope-broken words (asked-at s scope)) ++ below s
+  at : (s : Spot) → from s ≡ gather findings (scope-broken words (asked-at s scope)) ++ found-below s
   unfolding scoped
   at s = found-at scope-below (scope-broken words) extent-pos scope-shrinks (asked-at s scope)
-
-  pub scoped-two : JoinsTwo (λ c. from (condition c)) _++_
-  unfolding scope-below scope-broken gather scoped
-  scoped-two =
-      record {
-        and = λ n l r. at (condition (cond.And n l r)) ∙ then-one (from (condition l)) (from (condition r));
-        or = λ n l r. at (condition (cond.Or n l r)) ∙ then-one (from (condition l)) (from (condition r));
-        since = λ n l r w. at (condition (cond.Since n l r w)) ∙ then-one (from (condition l)) (from (condition r));
-      }
-
-  pub scoped-one : PassesOne (λ c. from (condition c))
-  unfolding scope-below scope-broken gather scoped
-  scoped-one =
-      record {
-        not = λ n b. at (condition (cond.Not n b)) ∙ append-nil (from (condition b));
-        past = λ n k b w. at (condition (cond.Past n k b w)) ∙ append-nil (from (condition b));
-      }
-
-  pub scoped-refine : (n : NodeNo) (b : Condition) (l : Arguments) → from (condition (cond.Refine n b l)) ≡ from (condition b)
-  unfolding scope-below scope-broken gather scoped
-  scoped-refine n b l = at (condition (cond.Refine n b l)) ∙ append-nil (from (condition b))
 
   -- ---- a search finds the same whatever is in scope
 
@@ -135,54 +109,87 @@ module _ (words scope : Set) where
 
   pub plain-scoped : (c : Condition) → plain c ≡ true → from (condition c) ≡ []
   unfolding scope-below scope-broken gather scoped plain
-  plain-scoped (cond.And n l r) e = scoped-two .and n l r ∙ ap₂ {C = List Finding} _++_ (plain-scoped l (both-true (plain l) (plain r) e .0)) (plain-scoped r (both-true (plain l) (plain r) e .1))
+  plain-scoped (cond.And n l r) e = at _ ∙ then-one (from (condition l)) (from (condition r)) ∙ ap₂ {C = List Finding} _++_ (plain-scoped l (both-true (plain l) (plain r) e .0)) (plain-scoped r (both-true (plain l) (plain r) e .1))
   plain-scoped (cond.Or n l r) e = absurd (true≢false (sym e))
   plain-scoped (cond.Not n b) e = absurd (true≢false (sym e))
-  plain-scoped (cond.Past n k b w) e = scoped-one .past n k b w ∙ plain-scoped b e
+  plain-scoped (cond.Past n k b w) e = at _ ∙ append-nil _ ∙ plain-scoped b e
   plain-scoped (cond.Since n l r w) e = absurd (true≢false (sym e))
   plain-scoped (cond.Exists n s y b) e = absurd (true≢false (sym e))
   plain-scoped (cond.Comparison n o l r) e = absurd (true≢false (sym e))
   plain-scoped (cond.Predicate n a l) e = at (condition (cond.Predicate n a l)) ∙ append-nil (from (searched-arguments l)) ∙ arguments-searched l ∙ plain-nested l e
-  plain-scoped (cond.Refine n b l) e = scoped-refine n b l ∙ plain-scoped b (both-true (plain b) (plain-arguments l) e .0)
+  plain-scoped (cond.Refine n b l) e = at _ ∙ append-nil _ ∙ plain-scoped b (both-true (plain b) (plain-arguments l) e .0)
   plain-scoped (cond.Tp n s) e = absurd (true≢false (sym e))
   plain-scoped (cond.Opaque n k y) e = absurd (true≢false (sym e))
 
   -- ---- conditions
+
+  nowhere-scoped : (n : NodeNo) (k : ℕ) (m : NodeNo) → from (condition (cond.Predicate n k (no-argument m))) ≡ []
+  unfolding scope-below scope-broken gather scoped nested
+  nowhere-scoped n k m = at (condition (cond.Predicate n k (no-argument m))) ∙ append-nil (from (searched-arguments (no-argument m))) ∙ arguments-searched (no-argument
+      m)
+
+  -- what is found where the walk goes on below a condition, with these names in scope at the one condition below it
+  module _ (bytes : List ℕ) where
+    abbrev body : NodeNo → List Finding
+    body k = from (condition (condition-of bytes (k .0)))
+
+    abbrev side : NodeNo → List Finding
+    side k = from (operand (term-of bytes (k .0)))
+
+    abbrev pub goes-on : Set → Below → List Finding
+    goes-on inner below.Nothing = []
+    goes-on inner (below.Condition b) = scoped words (condition (condition-of bytes (b .0))) inner
+    goes-on inner (below.Conditions l r) = body l ++ body r
+    goes-on inner (below.Operands l r) = side l ++ side r
+
+    by-kind : (n : NodeNo) (m : Node) → let c = as-condition (planted (tree-of bytes) n m) in
+        from (condition c) ≡ at-itself words c ++ goes-on (scope-first c scope) (entered-below m)
+    unfolding planted as-condition scope-below scope-broken gather scoped nested at-itself scope-first entered-below
+    by-kind n (node.And l r) = at _ ∙ then-one (body l) (body r)
+    by-kind n (node.Or l r) = at _ ∙ then-one (body l) (body r)
+    by-kind n (node.Not b) = at _ ∙ append-nil _
+    by-kind n (node.Formerly b w) = at _ ∙ append-nil _
+    by-kind n (node.Previous b w) = at _ ∙ append-nil _
+    by-kind n (node.Since l r w) = at _ ∙ then-one (body l) (body r)
+    by-kind n (node.Exists s y b) =
+        at _
+        ∙ ap₂ {C = List Finding} _++_ (then-one (findings (for-names 22 n (named s ∩ words))) (findings (for-names 23 n (pick (holds-sigil (condition-of bytes (b .0))) none (named s ∖ restricted (condition-of bytes (b .0)))))))
+        (append-nil _)
+    by-kind n (node.Comparison o l r) = at _ ∙ then-one (side l) (side r)
+    by-kind n (node.Predicate a l) = at _ ∙ append-nil _ ∙ arguments-searched _ ∙ sym (append-nil _)
+    by-kind n (node.Refine b l) = at _ ∙ append-nil _
+    by-kind n (node.Tp s) = at _ ∙ append-nil _
+    by-kind n (node.Call y) = at _
+    by-kind n (node.SigilRef y) = at _
+    by-kind n (node.Var x) = nowhere-scoped _ _ _
+    by-kind n node.Wildcard = nowhere-scoped _ _ _
+    by-kind n (node.Literal y) = nowhere-scoped _ _ _
+    by-kind n (node.ScopeField y) = nowhere-scoped _ _ _
+    by-kind n (node.ContextField y) = nowhere-scoped _ _ _
+    by-kind n (node.ParamRef k) = nowhere-scoped _ _ _
+    by-kind n (node.BinderRef k) = nowhere-scoped _ _ _
+    by-kind n (node.Array l) = nowhere-scoped _ _ _
+    by-kind n (node.Arith o l r) = nowhere-scoped _ _ _
+    by-kind n (node.Sum s l b) = nowhere-scoped _ _ _
+    by-kind n (node.Count l b) = nowhere-scoped _ _ _
+    by-kind n (node.AggregateCall y) = nowhere-scoped _ _ _
+    by-kind n node.ListEnd = nowhere-scoped _ _ _
+    by-kind n (node.ArgumentCell f x l) = nowhere-scoped _ _ _
+    by-kind n (node.ItemCell x l) = nowhere-scoped _ _ _
+    by-kind n (node.BinderCell s y l) = nowhere-scoped _ _ _
 
   module _ {bytes starts : List ℕ} {i : ℕ} where
     pub in-condition : {m : Node} → Arm bytes starts i m → from (condition (condition-of bytes i)) ≡ from (condition (as-condition (planted (tree-of bytes) (node-no i)
         m)))
     in-condition a = ap (λ (t : Tree). from (condition (as-condition t))) (a .tree)
 
-    pub scoped-comparison : {o : ℕ} {l r : NodeNo} → Arm bytes starts i (node.Comparison o l r)
-        → from (condition (condition-of bytes i)) ≡ from (operand (term-of bytes (l .0))) ++ from (operand (term-of bytes (r .0)))
-    unfolding planted as-condition scope-below scope-broken gather scoped
-    scoped-comparison {l = l} {r = r} a = in-condition a ∙ at _ ∙ then-one (from (operand (term-of bytes (l .0)))) (from (operand (term-of bytes (r .0))))
-
-    pub scoped-predicate : {q : ℕ} {l : NodeNo} → Arm bytes starts i (node.Predicate q l) → from (condition (condition-of bytes i)) ≡ nested-in (tree-of bytes (l .0))
-    unfolding planted as-condition scope-below scope-broken gather scoped
-    scoped-predicate {l = l} a =
-        in-condition a ∙ at _ ∙ append-nil (from (searched-arguments (arguments-of bytes (l .0)))) ∙ arguments-searched (arguments-of bytes (l .0))
-        ∙ sym (at-arguments nested nested-arguments nested-items [] no-argument-nested _ (a .children .0 .fits))
-
-    pub scoped-tp : {s : Slot} → Arm bytes starts i (node.Tp s) → from (condition (condition-of bytes i)) ≡ findings (for-names 22 (node-no i) (named s ∩ words))
-    unfolding planted as-condition scope-below scope-broken gather scoped
-    scoped-tp {s = s} a = in-condition a ∙ at _ ∙ once (findings (for-names 22 (node-no i) (named s ∩ words)))
-
-    pub scoped-exists : {inner : Set} {s : Slot} {y : ℕ} {b : NodeNo} → inner ≡ scope ∪ named s → Arm bytes starts i (node.Exists s y b)
-        → from (condition (condition-of bytes i))
-        ≡ findings (for-names 22 (node-no i) (named s ∩ words))
-        ++ (findings (for-names 23 (node-no i) (pick (holds-sigil (condition-of bytes (b .0))) none (named s ∖ restricted (condition-of bytes (b .0)))))
-        ++ scoped words (condition (condition-of bytes (b .0))) inner)
-    unfolding planted as-condition scope-below scope-broken gather scoped
-    scoped-exists {s = s} {b = b} e a = in-condition a ∙ at _ ∙ then-two reserved loose _ ∙ ap (λ (z : Set). reserved ++ (loose ++ scoped words (condition (condition-of
-        bytes (b .0))) z)) (sym e)
-      where
-        reserved : List Finding
-        reserved = findings (for-names 22 (node-no i) (named s ∩ words))
-
-        loose : List Finding
-        loose = findings (for-names 23 (node-no i) (pick (holds-sigil (condition-of bytes (b .0))) none (named s ∖ restricted (condition-of bytes (b .0)))))
+    -- what is found at the condition itself, and then where the walk goes on
+    pub scoped-entered : {inner : Set} {m : Node} {s : Below} → Arm bytes starts i m → s ≡ entered-below m → inner ≡ scope-first (condition-of bytes i) scope
+        → from (condition (condition-of bytes i)) ≡ at-itself words (condition-of bytes i) ++ goes-on bytes inner s
+    scoped-entered a e f =
+        in-condition a ∙ by-kind bytes _ _
+        ∙ sym (ap₂ {C = List Finding} _++_ (ap (λ (t : Tree). at-itself words (as-condition t)) (a .tree)) (rw (e, f ∙ ap (λ (t : Tree). scope-first (as-condition t) scope) (a
+        .tree))))
 
     -- ---- operands
 
@@ -242,21 +249,6 @@ module _ (words scope : Set) where
 
   -- ---- the other kinds
 
-  nowhere-scoped : (n : NodeNo) (k : ℕ) (m : NodeNo) → from (condition (cond.Predicate n k (no-argument m))) ≡ []
-  unfolding scope-below scope-broken gather scoped nested
-  nowhere-scoped n k m = at (condition (cond.Predicate n k (no-argument m))) ∙ append-nil (from (searched-arguments (no-argument m))) ∙ arguments-searched (no-argument
-      m)
-
-  no-scoped : (t : ℕ → Tree) (n : NodeNo) (m : Node) → OneOf unscoped-kinds (tagOf the-type m) → from (condition (as-condition (planted t n m))) ≡ []
-  unfolding scope-below scope-broken gather scoped
-  no-scoped t n =
-      condition-cases t n (λ m z. OneOf unscoped-kinds (tagOf the-type m) → from (condition z) ≡ [])
-      (λ l r h. absurd (miss unscoped-kinds 0 tt h)) (λ l r h. absurd (miss unscoped-kinds 1 tt h)) (λ b h. absurd (miss unscoped-kinds 2 tt h))
-      (λ b w h. absurd (miss unscoped-kinds 3 tt h)) (λ b w h. absurd (miss unscoped-kinds 4 tt h)) (λ l r w h. absurd (miss unscoped-kinds 5 tt h))
-      (λ s y b h. absurd (miss unscoped-kinds 6 tt h)) (λ o l r h. absurd (miss unscoped-kinds 7 tt h)) (λ a l h. absurd (miss unscoped-kinds 8 tt h))
-      (λ b l h. absurd (miss unscoped-kinds 9 tt h)) (λ s h. absurd (miss unscoped-kinds 10 tt h)) (λ y h. at (condition (cond.Opaque n 0x1B y)))
-      (λ y h. at (condition (cond.Opaque n 0x1C y))) (λ m e h. nowhere-scoped _ _ _)
-
   no-operand : (t : ℕ → Tree) (n : NodeNo) (m : Node) → OneOf unentered-kinds (tagOf the-type m) → from (operand (as-term (planted t n m))) ≡ []
   unfolding scope-below scope-broken gather scoped
   no-operand t n =
@@ -267,8 +259,5 @@ module _ (words scope : Set) where
       (λ l b h. absurd (miss unentered-kinds 23 tt h)) (λ y h. at (operand (AggregateCall n y))) (λ m e h. at (operand (Value (node-no 0) 0 0)))
 
   module _ {bytes starts : List ℕ} {i : ℕ} {m : Node} where
-    pub scoped-none : Arm bytes starts i m → OneOf unscoped-kinds (tagOf the-type m) → from (condition (condition-of bytes i)) ≡ []
-    scoped-none a h = in-condition a ∙ no-scoped _ _ _ h
-
     pub operand-none : Arm bytes starts i m → OneOf unentered-kinds (tagOf the-type m) → from (operand (term-of bytes i)) ≡ []
     operand-none a h = in-operand a ∙ no-operand _ _ _ h

@@ -4,13 +4,14 @@ use cells::is_skipped;
 use names::Names;
 use paper::Node;
 use paper::NodeNo;
-use places::binders::check_exists_safe;
-use places::binders::reject_reserved_binder;
+use parts::Below;
+use parts::entered_below;
+use places::itself::check_itself;
+use places::itself::scope_first;
 use places::nested::reject_nested_agg;
 use record::access::node_at;
 use rows::read::is_plain;
-use slots::binder_names;
-use slots::slot_name;
+use slots::with_binders;
 ghost use mathlib.Core.Path.{_≡_};
 ghost use mathlib.Core.Bool.{true};
 ghost use Rattle.paper.specs.Places.{condition, operand};
@@ -40,28 +41,22 @@ pub fn check_condition(
         return at;
     }
     let node = node_at(bytes, starts, i);
-    match node {
-        Node::And(l, r) | Node::Or(l, r) | Node::Since(l, r, _) => {
-            let p = check_condition(bytes, starts, rows, l, scope, words, out, at);
-            check_condition(bytes, starts, rows, r, scope, words, out, p)
+    let p = check_itself(bytes, starts, rows, i, node, words, out, at);
+    let below = entered_below(node);
+    match below {
+        Below::Nothing => p,
+        Below::Condition(b) => {
+            let inner = scope_first(node, scope);
+            check_condition(bytes, starts, rows, b, inner, words, out, p)
         }
-        Node::Not(b) | Node::Formerly(b, _) | Node::Previous(b, _) | Node::Refine(b, _) => {
-            check_condition(bytes, starts, rows, b, scope, words, out, at)
+        Below::Conditions(l, r) => {
+            let q = check_condition(bytes, starts, rows, l, scope, words, out, p);
+            check_condition(bytes, starts, rows, r, scope, words, out, q)
         }
-        Node::Exists(slot, _, b) => {
-            let p = reject_reserved_binder(i, slot, words, out, at);
-            let q = check_exists_safe(bytes, rows, i, slot, b, out, p);
-            let bound = slot_name(slot);
-            let inner = names::union(scope, bound);
-            check_condition(bytes, starts, rows, b, inner, words, out, q)
+        Below::Operands(l, r) => {
+            let q = check_operand(bytes, starts, rows, l, scope, words, out, p);
+            check_operand(bytes, starts, rows, r, scope, words, out, q)
         }
-        Node::Comparison(_, l, r) => {
-            let p = check_operand(bytes, starts, rows, l, scope, words, out, at);
-            check_operand(bytes, starts, rows, r, scope, words, out, p)
-        }
-        Node::Predicate(_, arguments) => reject_nested_agg(bytes, starts, arguments, out, at),
-        Node::Tp(slot) => reject_reserved_binder(i, slot, words, out, at),
-        _ => at,
     }
 }
 
@@ -91,8 +86,7 @@ pub fn check_operand(
                 return at;
             }
             let p = check_agg_expr(bytes, starts, rows, i, scope, words, out, at);
-            let own = binder_names(bytes, starts, binders);
-            let inner = names::union(scope, own);
+            let inner = with_binders(bytes, starts, scope, binders);
             check_condition(bytes, starts, rows, body, inner, words, out, p)
         }
         Node::Array(items) => reject_nested_agg(bytes, starts, items, out, at),

@@ -4,6 +4,7 @@ use mathlib.Core.Path.{_≡_, refl, sym, _∙_}
 use mathlib.Core.Logic.{⊎-elim}
 use denote.Ref.{now}
 use native.Mathlib.Omega.{arith}
+use native.Mathlib.Nat.{le-refl}
 use borrow.Author.Needs.{needs}
 use Rattle.paper.specs.declared.Node.{Node}
 use Rattle.paper.specs.declared.Node.the-variants as node
@@ -11,11 +12,13 @@ use Rattle.names.specs.Words.{mem}
 use Rattle.trees.specs.Trees.{condition-of}
 use Rattle.trees.proofs.Arms.{Arm, arm}
 use Rattle.known.proofs.RowLaws.{under, under-body}
-use Rattle.trees.proofs.Shapes as shape
-use Rattle.trees.proofs.Shapes.{Two, Base, Aggregate, sum, count, of-two, of-base, of-aggregate, met₁, met₂}
+use Rattle.trees.proofs.Shapes.{Aggregate, sum, count, of-aggregate, met₂}
+use Rattle.parts.specs.declared.Below.{Below}
+use Rattle.parts.specs.Entered.{entered-below}
+use Rattle.parts.proofs.EnteredLaws.{entered}
 use Rattle.writes.specs.Written.{Room}
 use Rattle.writes.proofs.WriteLaws.{wrote-none, wrote-then, wrote-is, room-is, room-first, room-rest}
-use Rattle.owed.proofs.DemandLaws.{plain-demanded, below-it, wrote-own-first, room-own, room-below, below-two, below-base, first-is-asked, below-comparison, below-none, operand-arith, operand-aggregate, operand-none}
+use Rattle.owed.proofs.DemandLaws.{plain-demanded, below-it, wrote-own-first, room-own, room-below, below-entered, first-is-asked, operand-arith, operand-aggregate, operand-none}
 use Prim.Native.Nat.{ℕ, _<_}
 use borrow.Fn.Kinds.{In}
 use borrow.Fn.PlainCycle.{Measures, is, falls, and}
@@ -25,6 +28,7 @@ use Rattle.owed.proofs.asked_first.Reads as asked-first-reads
 use Rattle.owed.proofs.check_own_demands.Reads as check-own-demands-reads
 use Rattle.owed.proofs.tied_first.Reads as tied-first-reads
 use Rattle.owed.proofs.tied_second.Reads as tied-second-reads
+use Rattle.parts.proofs.entered_below.Reads as entered-below-reads
 use Rattle.rows.proofs.read.is_plain.Reads as is-plain-reads
 use Rattle.slots.proofs.without_binders.Reads as without-binders-reads
 use Rattle.record.proofs.access.node_at.Reads as node-at-reads
@@ -61,8 +65,8 @@ chain-claims t = (
   node-at-reads.Learnt,
   check-own-demands-reads.Asked,
   check-own-demands-reads.Learnt,
-  operand-below t,
-  descend-nested-chains.Post,
+  entered-below-reads.Asked,
+  entered-below-reads.Learnt,
   tied-first-reads.Asked,
   tied-first-reads.Learnt,
   asked-first-reads.Asked,
@@ -71,6 +75,8 @@ chain-claims t = (
   check-chain.Post,
   tied-second-reads.Asked,
   tied-second-reads.Learnt,
+  operand-below t,
+  descend-nested-chains.Post,
 )
 
 abbrev operand-claims : ℕ → descend-nested-chains-lts.Claims
@@ -93,34 +99,16 @@ operand-arm : (t : ℕ) (c : descend-nested-chains-lts.After-node-at (operand-cl
     → Arm (now (c .before .before .before .args .bytes)) (now (c .before .before .before .args .starts)) (c .before .before .before .args .i .0) m
 operand-arm t c p = arm _ _ _ _ _ (c .before .before .before .pre .1 .0 .0) (c .node-at .ensures) p
 
--- the room for what lies below, after the condition's own entries
-chain-room : (t : ℕ) (c : check-chain-lts.After-slice-known2 (chain-claims t) (chain-at t) check-chain.Post)
-    → let s = c .before .before .before .before .before .before .before .before .before .args in
-    Room (below-it (condition-of (now (s .bytes)) (s .i .0)) (mem (s .tied))) (c .before .before .check-own-demands .result)
-chain-room t c = room-below _ _ _ (c .before .before .check-own-demands .ensures) (c .before .before .before .before .before .before .before .before .before .pre .1 .1)
+-- where the walk goes on: the node, what it is said to be, and the room after the condition's own entries
+module _ (t : ℕ) (c : check-chain-lts.After-entered-below (chain-claims t) (chain-at t) check-chain.Post) where
+  here : let s = c .before .before .before .before .before .before .before .before .before .before .args in Arm (now (s .bytes)) (now (s .starts)) (s .i .0) (c .before .before .before .before .before .node-at .result)
+  here = chain-arm t (c .before .before .before .before .before) refl
 
-base : (t : ℕ) (c : check-chain-lts.At-match-came (chain-claims t) (chain-at t) check-chain.Post) → Base (c .match .b) (c .before .before .before .before .before .node-at .result)
-base t c =
-    ⊎-elim (λ w. met₁ Base node.Not (λ b. shape.body (shape.one shape.not)) (w .1 .given .1) (w .4))
-    (⊎-elim (λ w. met₁ Base (λ b. node.Formerly b (w .1 .given .0 .1 .0)) (λ b. shape.body (shape.one shape.formerly)) (w .1 .given .1) (w .4))
-    (⊎-elim (λ w. met₁ Base (λ b. node.Previous b (w .1 .given .0 .1 .0)) (λ b. shape.body (shape.one shape.previous)) (w .1 .given .1) (w .4))
-    (⊎-elim (λ w. met₁ Base (node.Exists (w .1 .given .0 .0) (w .1 .given .0 .1 .0)) (λ b. shape.body shape.exists) (w .1 .given .1) (w .4))
-    (λ w. met₁ Base (λ b. node.Refine b (w .1 .given .0 .1 .0)) (λ b. shape.refine) (w .1 .given .1) (w .4)))))
-    (c .match .came)
+  told : {s : Below} → c .entered-below .result ≡ s → s ≡ entered-below (c .before .before .before .before .before .node-at .result)
+  told p = sym p ∙ c .entered-below .ensures
 
-two : (t : ℕ) (c : check-chain-lts.At-match-came-2 (chain-claims t) (chain-at t) check-chain.Post) → Two (c .match .l) (c .match .r) (c .before .before .before .before .before .node-at .result)
-two t c =
-    ⊎-elim (λ w. met₂ Two node.And (λ l r. shape.and) (w .1 .given .1) (w .4) (w .5))
-    (⊎-elim (λ w. met₂ Two node.Or (λ l r. shape.or) (w .1 .given .1) (w .4) (w .5))
-    (λ w. met₂ Two (λ l r. node.Since l r (w .1 .given .0 .1 .1 .0)) (λ l r. shape.since) (w .1 .given .1) (w .4) (w .5)))
-    (c .match .came)
-
--- the node that such an arm goes on with
-base-node : (t : ℕ) (c : check-chain-lts.At-match-came (chain-claims t) (chain-at t) check-chain.Post) → c .match .node ≡ c .before .before .before .before .before .node-at .result
-base-node t c = ⊎-elim (λ w. w .3 ∙ sym (w .1 .given .1)) (⊎-elim (λ w. w .3 ∙ sym (w .1 .given .1)) (⊎-elim (λ w. w .3 ∙ sym (w .1 .given .1)) (⊎-elim (λ w. w .3 ∙ sym (w .1 .given .1)) (λ w. w .3 ∙ sym (w .1 .given .1))))) (c .match .came)
-
-two-node : (t : ℕ) (c : check-chain-lts.At-match-came-2 (chain-claims t) (chain-at t) check-chain.Post) → c .match .node ≡ c .before .before .before .before .before .node-at .result
-two-node t c = ⊎-elim (λ w. w .3 ∙ sym (w .1 .given .1)) (⊎-elim (λ w. w .3 ∙ sym (w .1 .given .1)) (λ w. w .3 ∙ sym (w .1 .given .1))) (c .match .came)
+  room : let s = c .before .before .before .before .before .before .before .before .before .before .args in Room (below-it (condition-of (now (s .bytes)) (s .i .0)) (mem (s .tied))) (c .before .before .before .check-own-demands .result)
+  room = room-below _ _ _ (c .before .before .before .check-own-demands .ensures) (c .before .before .before .before .before .before .before .before .before .before .pre .1 .1)
 
 aggregate : (t : ℕ) (c : descend-nested-chains-lts.At-match-came (operand-claims t) (operand-at t) descend-nested-chains.Post)
     → Aggregate (c .match .binders) (c .match .body) (c .before .node-at .result)
@@ -133,27 +121,27 @@ plain-writes : (t : ℕ) → check-chain-lts.Need-returns (chain-claims t) (chai
 plain-writes t c =
     wrote-is (plain-demanded _ _ _ (sym (c .before .is-plain .ensures) ∙ c .if1 .taken)) wrote-none
 
-comparison-writes : (t : ℕ) → check-chain-lts.Need-returns-2 (chain-claims t) (chain-at t) check-chain.Post
-comparison-writes t c =
-    let a = chain-arm t (c .before .before .before .before .before .before .before .before .before .before .before .before .before .before .before) (c .before .before .before .before .before .before .before .before .before .node9 .given .1) in
-    wrote-own-first _ _ _ (c .before .before .before .before .before .before .before .before .before .before .before .before .before .check-own-demands .ensures)
-    (wrote-is (below-comparison _ a) (wrote-then (c .before .before .before .before .before .before .descend-nested-chains .ensures) (c .before .before .descend-nested-chains2 .ensures)))
+nothing-writes : (t : ℕ) → check-chain-lts.Need-returns-2 (chain-claims t) (chain-at t) check-chain.Post
+nothing-writes t c =
+    wrote-own-first _ _ _ (c .before .before .before .before .before .check-own-demands .ensures) (wrote-is (below-entered _ (here t (c .before .before)) (told t (c .before .before) (c .enum-told .given .1)) refl refl refl) wrote-none)
 
-other-writes : (t : ℕ) → check-chain-lts.Need-returns-3 (chain-claims t) (chain-at t) check-chain.Post
-other-writes t c =
-    wrote-own-first _ _ _ (c .before .before .before .check-own-demands .ensures) (wrote-is (below-none _ (chain-arm t (c .before .before .before .before .before) refl) (c .match .keys10)) wrote-none)
+condition-writes : (t : ℕ) → check-chain-lts.Need-returns-3 (chain-claims t) (chain-at t) check-chain.Post
+condition-writes t c =
+    let further = first-is-asked _ (here t (c .before .before .before .before .before .before .before .before .before)) (c .before .before .before .before .asked-first .ensures) in
+    wrote-own-first _ _ _ (c .before .before .before .before .before .before .before .before .before .before .before .before .check-own-demands .ensures)
+    (wrote-is (below-entered _ (here t (c .before .before .before .before .before .before .before .before .before)) (told t (c .before .before .before .before .before .before .before .before .before) (c .before .before .before .before .before .before .before .below .given .1)) (c .before .before .before .before .before .tied-first .ensures) refl further) (c .before .before .check-chain .ensures))
 
-base-writes : (t : ℕ) → check-chain-lts.Need-returns-4 (chain-claims t) (chain-at t) check-chain.Post
-base-writes t c =
-    let a = chain-arm t (c .before .before .before .before .before .before .before .before .before .before .before) refl in
-    wrote-own-first _ _ _ (c .before .before .before .before .before .before .before .before .before .check-own-demands .ensures)
-    (wrote-is (below-base _ (base t (c .before .before .before .before .before .before)) a (c .before .before .before .before .before .tied-first .ensures) (first-is-asked _ a (base-node t (c .before .before .before .before .before .before)) (c .before .before .before .before .asked-first .ensures))) (c .before .before .check-chain .ensures))
+conditions-writes : (t : ℕ) → check-chain-lts.Need-returns-4 (chain-claims t) (chain-at t) check-chain.Post
+conditions-writes t c =
+    wrote-own-first _ _ _ (c .before .before .before .before .before .before .before .before .before .before .before .before .before .before .before .before .check-own-demands .ensures)
+    (wrote-is (below-entered _ (here t (c .before .before .before .before .before .before .before .before .before .before .before .before .before)) (told t (c .before .before .before .before .before .before .before .before .before .before .before .before .before) (c .before .before .before .before .before .before .before .before .before .before .before .below2 .given .1)) (c .before .before .before .before .before .before .before .before .before .tied-first2 .ensures) (c .before .before .before .before .before .before .before .before .tied-second .ensures) refl)
+    (wrote-then (c .before .before .before .before .before .before .check-chain2 .ensures) (c .before .before .check-chain3 .ensures)))
 
-two-writes : (t : ℕ) → check-chain-lts.Need-returns-5 (chain-claims t) (chain-at t) check-chain.Post
-two-writes t c =
-    let a = chain-arm t (c .before .before .before .before .before .before .before .before .before .before .before .before .before .before .before) refl in
-    wrote-own-first _ _ _ (c .before .before .before .before .before .before .before .before .before .before .before .before .before .check-own-demands .ensures)
-    (wrote-is (below-two _ (two t (c .before .before .before .before .before .before .before .before .before .before)) a (c .before .before .before .before .before .before .before .before .before .tied-first2 .ensures) (c .before .before .before .before .before .before .before .before .tied-second .ensures)) (wrote-then (c .before .before .before .before .before .before .check-chain2 .ensures) (c .before .before .check-chain3 .ensures)))
+operands-writes : (t : ℕ) → check-chain-lts.Need-returns-5 (chain-claims t) (chain-at t) check-chain.Post
+operands-writes t c =
+    wrote-own-first _ _ _ (c .before .before .before .before .before .before .before .before .before .before .before .before .before .before .check-own-demands .ensures)
+    (wrote-is (below-entered _ (here t (c .before .before .before .before .before .before .before .before .before .before .before)) (told t (c .before .before .before .before .before .before .before .before .before .before .before) (c .before .before .before .before .before .before .before .before .before .below3 .given .1)) refl refl refl)
+    (wrote-then (c .before .before .before .before .before .before .descend-nested-chains .ensures) (c .before .before .descend-nested-chains2 .ensures)))
 
 arith-writes : (t : ℕ) → descend-nested-chains-lts.Need-returns (operand-claims t) (operand-at t) descend-nested-chains.Post
 arith-writes t c =
@@ -178,32 +166,28 @@ pub +check-chain+descend-nested-chains-spec : {M : Type 1} → statement M
     (plain-writes t)
     (λ c κs. c .before .before .before .before .pre .1 .0 .0)
     (λ c κs. let s = c .before .before .before .before .before .before .pre .1 in ((s .0 .0, s .0 .1), (c .before .node-at .ensures, room-own _ _ _ (s .1))))
-    (λ c. search needs)
-    (λ c. search needs)
-    (λ c. search needs)
-    (λ c. search needs)
-    (λ c. search needs)
-    (λ c. search needs)
-    (λ c. search needs)
-    (λ c. search needs)
-    (λ c. search needs)
-    (λ c κs. let a = chain-arm t (c .before .before .before .before .before .before .before .before) (c .before .before .node9 .given .1) in let d = under (a .children .0) (c .before .before .before .before .before .before .before .before .before .before .before .before .before .pre .0) (c .before .before .before .before .before .before .before .before .before .before .before .before .before .pre .1 .0 .1) in (d .0, (d .1, room-first _ _ (room-is (below-comparison _ a) (chain-room t (c .before .before .before .before))))))
-    (λ c κs. let a = chain-arm t (c .before .before .before .before .before .before .before .before .before .before .before .before) (c .before .before .before .before .before .before .node9 .given .1) in let d = under (a .children .1 .0) (c .before .before .before .before .before .before .before .before .before .before .before .before .before .before .before .before .before .pre .0) (c .before .before .before .before .before .before .before .before .before .before .before .before .before .before .before .before .before .pre .1 .0 .1) in let w = c .before .before .before .descend-nested-chains .ensures in (d .0, (d .1, room-rest _ _ w (omega (arith, w .total)) (room-is (below-comparison _ a) (chain-room t (c .before .before .before .before .before .before .before .before))))))
-    (λ c κs. ((c .before .before .before .before .before .before .before .before .before .before .pre .1 .0 .0, c .before .before .before .before .before .before .before .before .before .before .pre .1 .0 .1), base-node t (c) ∙ c .before .before .before .before .before .node-at .ensures))
     (λ c κs. search needs)
-    (λ c κs. let a = chain-arm t (c .before .before .before .before .before .before .before .before) refl in let s = base t (c .before .before .before) in let d = under-body (of-base s a) (c .before .before .before .before .before .before .before .before .before .before .before .before .before .pre .0) (c .before .before .before .before .before .before .before .before .before .before .before .before .before .pre .1 .0 .1) in (d .0, (d .1, room-is (below-base _ s a (c .before .before .tied-first .ensures) (first-is-asked _ a (base-node t (c .before .before .before)) (c .before .asked-first .ensures))) (chain-room t (c .before .before .before .before)))))
-    (λ c κs. ((c .before .before .before .before .before .before .before .before .before .before .pre .1 .0 .0, c .before .before .before .before .before .before .before .before .before .before .pre .1 .0 .1), two-node t (c) ∙ c .before .before .before .before .before .node-at .ensures))
-    (λ c κs. ((c .before .before .before .before .before .before .before .before .before .before .before .pre .1 .0 .0, c .before .before .before .before .before .before .before .before .before .before .before .pre .1 .0 .1), two-node t (c .before) ∙ c .before .before .before .before .before .before .node-at .ensures))
-    (λ c κs. let a = chain-arm t (c .before .before .before .before .before .before .before .before) refl in let s = two t (c .before .before .before) in let d = under-body (of-two s a .0) (c .before .before .before .before .before .before .before .before .before .before .before .before .before .pre .0) (c .before .before .before .before .before .before .before .before .before .before .before .before .before .pre .1 .0 .1) in (d .0, (d .1, room-first _ _ (room-is (below-two _ s a (c .before .before .tied-first2 .ensures) (c .before .tied-second .ensures)) (chain-room t (c .before .before .before .before))))))
-    (λ c κs. let a = chain-arm t (c .before .before .before .before .before .before .before .before .before .before .before .before) refl in let s = two t (c .before .before .before .before .before .before .before) in let d = under-body (of-two s a .1) (c .before .before .before .before .before .before .before .before .before .before .before .before .before .before .before .before .before .pre .0) (c .before .before .before .before .before .before .before .before .before .before .before .before .before .before .before .before .before .pre .1 .0 .1) in let w = c .before .before .before .check-chain2 .ensures in (d .0, (d .1, room-rest _ _ w (omega (arith, w .total)) (room-is (below-two _ s a (c .before .before .before .before .before .before .tied-first2 .ensures) (c .before .before .before .before .before .tied-second .ensures)) (chain-room t (c .before .before .before .before .before .before .before .before))))))
     (λ c. search needs)
-    (comparison-writes t)
     (λ c. search needs)
-    (other-writes t)
+    (λ c κs. let s = c .before .before .before .before .before .before .before .before .before .before .before .before .before .pre .1 .0 in ((s .0, s .1), c .before .before .before .before .before .before .before .before .node-at .ensures))
+    (λ c κs. search needs)
+    (λ c κs. let s = c .before .before .before .before .before .before .before .before .before .before .before .before .before .before .before .before in let d = under-body (entered (told t (c .before .before .before .before .before .before) (c .before .before .before .before .below .given .1)) (here t (c .before .before .before .before .before .before))) (s .pre .0) (s .pre .1 .0 .1) in (d .0, (d .1, room-is (below-entered _ (here t (c .before .before .before .before .before .before)) (told t (c .before .before .before .before .before .before) (c .before .before .before .before .below .given .1)) (c .before .before .tied-first .ensures) refl (first-is-asked _ (here t (c .before .before .before .before .before .before)) (c .before .asked-first .ensures))) (room t (c .before .before .before .before .before .before)))))
     (λ c. search needs)
-    (base-writes t)
+    (λ c κs. let s = c .before .before .before .before .before .before .before .before .before .before .before .before .before .pre .1 .0 in ((s .0, s .1), c .before .before .before .before .before .before .before .before .node-at .ensures))
+    (λ c κs. let s = c .before .before .before .before .before .before .before .before .before .before .before .before .before .before .pre .1 .0 in ((s .0, s .1), c .before .before .before .before .before .before .before .before .before .node-at .ensures))
+    (λ c κs. let s = c .before .before .before .before .before .before .before .before .before .before .before .before .before .before .before .before in let d = under-body (entered (told t (c .before .before .before .before .before .before) (c .before .before .before .before .below2 .given .1)) (here t (c .before .before .before .before .before .before)) .0) (s .pre .0) (s .pre .1 .0 .1) in (d .0, (d .1, room-first _ _ (room-is (below-entered _ (here t (c .before .before .before .before .before .before)) (told t (c .before .before .before .before .before .before) (c .before .before .before .before .below2 .given .1)) (c .before .before .tied-first2 .ensures) (c .before .tied-second .ensures) refl) (room t (c .before .before .before .before .before .before))))))
+    (λ c κs. let s = c .before .before .before .before .before .before .before .before .before .before .before .before .before .before .before .before .before .before .before .before in let d = under-body (entered (told t (c .before .before .before .before .before .before .before .before .before .before) (c .before .before .before .before .before .before .before .before .below2 .given .1)) (here t (c .before .before .before .before .before .before .before .before .before .before)) .1) (s .pre .0) (s .pre .1 .0 .1) in let w = c .before .before .before .check-chain2 .ensures in (d .0, (d .1, room-rest _ _ w (le-refl _) (room-is (below-entered _ (here t (c .before .before .before .before .before .before .before .before .before .before)) (told t (c .before .before .before .before .before .before .before .before .before .before) (c .before .before .before .before .before .before .before .before .below2 .given .1)) (c .before .before .before .before .before .before .tied-first2 .ensures) (c .before .before .before .before .before .tied-second .ensures) refl) (room t (c .before .before .before .before .before .before .before .before .before .before))))))
     (λ c. search needs)
-    (two-writes t))
+    (λ c κs. let s = c .before .before .before .before .before .before .before .before .before .before .before .before .before .before in let d = under (entered (told t (c .before .before .before .before) (c .before .before .below3 .given .1)) (here t (c .before .before .before .before)) .0) (s .pre .0) (s .pre .1 .0 .1) in (d .0, (d .1, room-first _ _ (room-is (below-entered _ (here t (c .before .before .before .before)) (told t (c .before .before .before .before) (c .before .before .below3 .given .1)) refl refl refl) (room t (c .before .before .before .before))))))
+    (λ c κs. let s = c .before .before .before .before .before .before .before .before .before .before .before .before .before .before .before .before .before .before in let d = under (entered (told t (c .before .before .before .before .before .before .before .before) (c .before .before .before .before .before .before .below3 .given .1)) (here t (c .before .before .before .before .before .before .before .before)) .1) (s .pre .0) (s .pre .1 .0 .1) in let w = c .before .before .before .descend-nested-chains .ensures in (d .0, (d .1, room-rest _ _ w (le-refl _) (room-is (below-entered _ (here t (c .before .before .before .before .before .before .before .before)) (told t (c .before .before .before .before .before .before .before .before) (c .before .before .before .before .before .before .below3 .given .1)) refl refl refl) (room t (c .before .before .before .before .before .before .before .before))))))
+    (λ c. search needs)
+    (nothing-writes t)
+    (λ c. search needs)
+    (condition-writes t)
+    (λ c. search (needs, c .before .before .before .before .before .before .before .before .before .before .before .before .before .before .before .out))
+    (conditions-writes t)
+    (λ c. search needs)
+    (operands-writes t))
     (λ t. descend-nested-chains-lts.spec (operand-claims t) (operand-at t) descend-nested-chains.Post
     (λ c κs. c .before .before .pre .1 .0 .0)
     (λ c. search needs)

@@ -1,0 +1,84 @@
+-- What `check_itself` finds at a node, and what `scope_first` says of it. Assumes nothing.
+use mathlib.Core.Path.{_≡_, refl, sym, ap, _∙_}
+use mathlib.Core.List.{List, [], _∷_, _++_}
+use Prim.Native.Nat.{ℕ}
+use types.Run.{OneOf, miss}
+use denote.Enum.Declared.{tagOf}
+use Rattle.paper.proofs.Node.{the-type}
+use Rattle.paper.specs.declared.NodeNo.{NodeNo}
+use Rattle.paper.specs.declared.Slot.{Slot}
+use Rattle.paper.specs.declared.Node.{Node}
+use Rattle.paper.specs.declared.Node.the-variants as node
+use Rattle.paper.specs.Record.{pick, node-no}
+use Rattle.paper.specs.Sets.{Set, none, _∪_, _∩_, _∖_}
+use Rattle.paper.specs.Tree.{Tree, as-condition, planted}
+use Rattle.paper.specs.FreeAndRestricted.{named, restricted, holds-sigil}
+use Rattle.paper.specs.Places.{for-names, findings}
+use Rattle.paper.specs.Scoping.{scope-below}
+use Rattle.trees.specs.Trees.{tree-of, condition-of}
+use Rattle.trees.proofs.Arms.{Arm}
+use Rattle.trees.proofs.Sorts.{at-arguments}
+use Rattle.trees.proofs.ByKind.{condition-cases}
+use Rattle.places.specs.Nested.{nested, nested-arguments, nested-items, nested-in}
+use Rattle.places.specs.Itself.{at-itself, scope-first, ScopeFirst}
+use Rattle.places.proofs.NestedLaws.{no-argument-nested}
+
+-- all but an exists, a predicate and a tp
+abbrev silent-kinds : List ℕ
+silent-kinds =
+    0 ∷ 1 ∷ 2 ∷ 3 ∷ 4 ∷ 5 ∷ 7 ∷ 9 ∷ 11 ∷ 12 ∷ 13 ∷ 14 ∷ 15 ∷ 16 ∷ 17 ∷ 18 ∷ 19 ∷ 20 ∷ 21 ∷ 22 ∷ 23 ∷ 24 ∷ 25 ∷ 26 ∷ 27 ∷ 28 ∷ []
+
+silent : (words : Set) (t : ℕ → Tree) (n : NodeNo) (m : Node) → OneOf silent-kinds (tagOf the-type m) → at-itself words (as-condition (planted t n m)) ≡ []
+unfolding at-itself nested
+silent words t n =
+    condition-cases t n (λ m z. OneOf silent-kinds (tagOf the-type m) → at-itself words z ≡ [])
+    (λ l r h. refl) (λ l r h. refl) (λ b h. refl) (λ b w h. refl) (λ b w h. refl) (λ l r w h. refl) (λ s y b h. absurd (miss silent-kinds 6 tt h)) (λ o l r h. refl)
+    (λ a l h. absurd (miss silent-kinds 8 tt h)) (λ b l h. refl) (λ s h. absurd (miss silent-kinds 10 tt h)) (λ y h. refl) (λ y h. refl)
+    (λ m e h. refl)
+
+module _ (words : Set) {bytes starts : List ℕ} {i : ℕ} where
+  in-itself : {m : Node} → Arm bytes starts i m → at-itself words (condition-of bytes i) ≡ at-itself words (as-condition (planted (tree-of bytes) (node-no i) m))
+  in-itself a = ap (λ (t : Tree). at-itself words (as-condition t)) (a .tree)
+
+  pub itself-exists : {s : Slot} {y : ℕ} {b : NodeNo} → Arm bytes starts i (node.Exists s y b)
+      → at-itself words (condition-of bytes i)
+      ≡ findings (for-names 22 (node-no i) (named s ∩ words))
+      ++ findings (for-names 23 (node-no i) (pick (holds-sigil (condition-of bytes (b .0))) none (named s ∖ restricted (condition-of bytes (b .0)))))
+  unfolding planted as-condition at-itself
+  itself-exists a = in-itself a
+
+  pub itself-predicate : {q : ℕ} {l : NodeNo} → Arm bytes starts i (node.Predicate q l) → at-itself words (condition-of bytes i) ≡ nested-in (tree-of bytes (l .0))
+  unfolding planted as-condition at-itself
+  itself-predicate a = in-itself a ∙ sym (at-arguments nested nested-arguments nested-items [] no-argument-nested _ (a .children .0 .fits))
+
+  pub itself-tp : {s : Slot} → Arm bytes starts i (node.Tp s) → at-itself words (condition-of bytes i) ≡ findings (for-names 22 (node-no i) (named s ∩ words))
+  unfolding planted as-condition at-itself
+  itself-tp a = in-itself a
+
+  pub itself-none : {m : Node} → Arm bytes starts i m → OneOf silent-kinds (tagOf the-type m) → at-itself words (condition-of bytes i) ≡ []
+  itself-none a h = in-itself a ∙ silent words _ _ _ h
+
+-- ---- what is in scope below
+
+pub first-exists : (scope : Set) {inner : Set} {m : Node} {s : Slot} {y : ℕ} {b : NodeNo} → m ≡ node.Exists s y b → inner ≡ scope ∪ named s → ScopeFirst m scope inner
+unfolding planted as-condition scope-first scope-below
+first-exists scope e f before n = f ∙ ap (λ (z : Node). scope-first (as-condition (planted before n z)) scope) (sym e)
+
+-- all but an exists
+abbrev unbound-kinds : List ℕ
+unbound-kinds =
+    0 ∷ 1 ∷ 2 ∷ 3 ∷ 4 ∷ 5 ∷ 7 ∷ 8 ∷ 9 ∷ 10 ∷ 11 ∷ 12 ∷ 13 ∷ 14 ∷ 15 ∷ 16 ∷ 17 ∷ 18 ∷ 19 ∷ 20 ∷ 21 ∷ 22 ∷ 23 ∷ 24 ∷ 25 ∷ 26 ∷ 27 ∷ 28 ∷ []
+
+same-scope : (scope : Set) (t : ℕ → Tree) (n : NodeNo) (m : Node) → OneOf unbound-kinds (tagOf the-type m) → scope-first (as-condition (planted t n m)) scope ≡ scope
+unfolding scope-first scope-below
+same-scope scope t n =
+    condition-cases t n (λ m z. OneOf unbound-kinds (tagOf the-type m) → scope-first z scope ≡ scope)
+    (λ l r h. refl) (λ l r h. refl) (λ b h. refl) (λ b w h. refl) (λ b w h. refl) (λ l r w h. refl) (λ s y b h. absurd (miss unbound-kinds 6 tt h))
+    (λ o l r h. refl) (λ a l h. refl) (λ b l h. refl) (λ s h. refl) (λ y h. refl) (λ y h. refl) (λ m e h. refl)
+
+pub first-same : (scope : Set) (m : Node) → OneOf unbound-kinds (tagOf the-type m) → ScopeFirst m scope scope
+first-same scope m h before n = sym (same-scope scope before n m h)
+
+pub first-in-scope : (scope : Set) {bytes starts : List ℕ} {i : ℕ} {inner : Set} {m : Node} → Arm bytes starts i m → ScopeFirst m scope inner
+    → inner ≡ scope-first (condition-of bytes i) scope
+first-in-scope scope a says = says _ _ ∙ sym (ap (λ (t : Tree). scope-first (as-condition t) scope) (a .tree))

@@ -1,0 +1,55 @@
+// A condition itself: its entries, and the names in scope below it.
+use crate::binders::check_exists_binder;
+use crate::binders::reject_reserved_binder;
+use crate::nested::reject_nested_agg;
+use names::Names;
+use paper::Node;
+use paper::NodeNo;
+use slots::with_slot;
+ghost use mathlib.Core.Path.{_≡_};
+ghost use Prim.Native.Nat.{_<_};
+ghost use lib.ListN.{getD};
+ghost use Rattle.paper.specs.declared.Node.the-variants.{ListEnd};
+ghost use Rattle.paper.specs.Shape.{names-in};
+ghost use Rattle.paper.proofs.Walks.{All};
+ghost use Rattle.names.specs.Words.{mem};
+ghost use Rattle.record.specs.Stored.{contents, Has};
+ghost use Rattle.known.specs.Rows.{Noted};
+ghost use Rattle.trees.specs.Trees.{condition-of};
+ghost use Rattle.writes.specs.Written.{Room, Wrote};
+ghost use Rattle.places.specs.Itself.{at-itself, ScopeFirst};
+
+// 22 and 23 at an exists, 22 at a tp, 20 and 21 in the arguments of a predicate.
+pub fn check_itself(
+    bytes: &[u8],
+    starts: &[u16; 512],
+    rows: &[[u64; 5]],
+    i: NodeNo,
+    node: Node,
+    words: Names,
+    out: &mut [u32],
+    at: usize,
+) -> usize
+    requires { ⌜ Has (now bytes) (now starts) (i .0) × Noted (now bytes) (now rows) ⌝ }
+    requires { ⌜ node ≡ getD (contents (now bytes) .nodes) (i .0) ListEnd ⌝ }
+    requires { ⌜ Room (at-itself (mem words) (condition-of (now bytes) (i .0))) at ⌝ }
+    ensures { λ r. ⌜ Wrote (at-itself (mem words) (condition-of (now (bytes .entry)) (i .0))) at r (now (out .entry)) (now (out .exit)) ⌝ }
+{
+    match node {
+        Node::Exists(slot, _, b) => check_exists_binder(bytes, rows, i, slot, b, words, out, at),
+        Node::Predicate(_, arguments) => reject_nested_agg(bytes, starts, arguments, out, at),
+        Node::Tp(slot) => reject_reserved_binder(i, slot, words, out, at),
+        _ => at,
+    }
+}
+
+// What is in scope at the first part of a condition: below an exists also its name.
+pub fn scope_first(node: Node, scope: Names) -> Names
+    requires { ⌜ All (λ x. x < 128) (names-in node) ⌝ }
+    ensures { λ r. ⌜ ScopeFirst node (mem scope) (mem r) ⌝ }
+{
+    match node {
+        Node::Exists(slot, _, _) => with_slot(scope, slot),
+        _ => scope,
+    }
+}
