@@ -1,6 +1,8 @@
 // Whether arithmetic is an operand of a comparison.
 use paper::Node;
 use paper::NodeNo;
+use parts::Below;
+use parts::entered_below;
 use record::access::node_at;
 ghost use mathlib.Core.Path.{_≡_};
 ghost use Rattle.paper.specs.Demands.{has-arith, operand-arith};
@@ -12,19 +14,15 @@ pub fn condition_has_arith(bytes: &[u8], starts: &[u16; 512], i: NodeNo) -> bool
     ensures { λ r. ⌜ r ≡ has-arith (condition-of (now (bytes .entry)) (i .0)) ⌝ }
 {
     let node = node_at(bytes, starts, i);
-    match node {
-        Node::And(l, r) | Node::Or(l, r) | Node::Since(l, r, _) => {
+    match entered_below(node) {
+        Below::Nothing => false,
+        Below::Condition(b) => condition_has_arith(bytes, starts, b),
+        Below::Conditions(l, r) => {
             condition_has_arith(bytes, starts, l) || condition_has_arith(bytes, starts, r)
         }
-        Node::Not(b)
-        | Node::Formerly(b, _)
-        | Node::Previous(b, _)
-        | Node::Exists(_, _, b)
-        | Node::Refine(b, _) => condition_has_arith(bytes, starts, b),
-        Node::Comparison(_, l, r) => {
+        Below::Operands(l, r) => {
             term_has_arith(bytes, starts, l) || term_has_arith(bytes, starts, r)
         }
-        _ => false,
     }
 }
 

@@ -34,6 +34,7 @@ use Rattle.trees.proofs.ByKind.{condition-kinds, no-other, condition-cases, ter
 use Rattle.parts.specs.declared.Below.{Below}
 use Rattle.parts.specs.declared.Below.the-variants as below
 use Rattle.parts.specs.Entered.{entered-below}
+use Rattle.parts.proofs.EnteredLaws.{entered-cases}
 use Rattle.writes.specs.Written.{Room, Wrote}
 use native.Mathlib.Nat.{le-refl}
 use Rattle.writes.proofs.WriteLaws.{wrote-then, wrote-is, room-is, room-first, room-rest}
@@ -123,36 +124,12 @@ module _ (ties : Set) (bytes : List ℕ) where
 
   by-kind : (n : NodeNo) (m : Node) → let c = as-condition (planted (tree-of bytes) n m) in
       below-it c ties ≡ goes-on (place-below 0 c ties .names) (place-below 1 c ties .names) (place-below 0 c ties .asked) (entered-below m)
-  unfolding planted as-condition below-it demand-below place-below entered-below gather
-  by-kind n (node.And l r) = two _ _ refl refl
-  by-kind n (node.Or l r) = two _ _ refl refl
-  by-kind n (node.Not b) = one _ _ refl
-  by-kind n (node.Formerly b w) = one _ _ refl
-  by-kind n (node.Previous b w) = one _ _ refl
-  by-kind n (node.Since l r w) = two _ _ refl refl
-  by-kind n (node.Exists s y b) = one _ _ refl
-  by-kind n (node.Comparison o l r) = two _ _ refl refl
-  by-kind n (node.Predicate a l) = refl
-  by-kind n (node.Refine b l) = one _ _ refl
-  by-kind n (node.Tp s) = refl
-  by-kind n (node.Call y) = refl
-  by-kind n (node.SigilRef y) = refl
-  by-kind n (node.Var x) = refl
-  by-kind n node.Wildcard = refl
-  by-kind n (node.Literal y) = refl
-  by-kind n (node.ScopeField y) = refl
-  by-kind n (node.ContextField y) = refl
-  by-kind n (node.ParamRef k) = refl
-  by-kind n (node.BinderRef k) = refl
-  by-kind n (node.Array l) = refl
-  by-kind n (node.Arith o l r) = refl
-  by-kind n (node.Sum s l b) = refl
-  by-kind n (node.Count l b) = refl
-  by-kind n (node.AggregateCall y) = refl
-  by-kind n node.ListEnd = refl
-  by-kind n (node.ArgumentCell f x l) = refl
-  by-kind n (node.ItemCell x l) = refl
-  by-kind n (node.BinderCell s y l) = refl
+  unfolding below-it demand-below place-below gather
+  by-kind n =
+      entered-cases (tree-of bytes) n
+      (λ s c. below-it c ties ≡ goes-on (place-below 0 c ties .names) (place-below 1 c ties .names) (place-below 0 c ties .asked) s)
+      (λ l r. two _ _ refl refl) (λ l r. two _ _ refl refl) (λ b. one _ _ refl) (λ k b w. one _ _ refl) (λ l r w. two _ _ refl refl) (λ s y b. one _ _ refl)
+      (λ o l r. two _ _ refl refl) (λ a l. refl) (λ b l. one _ _ refl) (λ s. refl) (λ k y. refl) refl
 
 module _ (ties : Set) {bytes starts : List ℕ} {i : ℕ} where
   -- ---- below a condition

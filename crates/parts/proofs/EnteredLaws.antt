@@ -5,10 +5,15 @@ use Prim.Native.Nat.{ℕ}
 use types.Run.{OneOf, miss}
 use denote.Enum.Declared.{tagOf}
 use Rattle.paper.proofs.Node.{the-type}
+use Rattle.paper.specs.declared.NodeNo.{NodeNo}
+use Rattle.paper.specs.declared.Slot.{Slot}
 use Rattle.paper.specs.declared.Node.{Node}
-use Rattle.paper.specs.declared.Node.the-variants as node
-use Rattle.paper.specs.Record.{condition, term}
+use Rattle.paper.specs.Record.{condition, term, node-no}
+use Rattle.paper.specs.Tree.{Tree, as-condition, as-term, as-arguments, planted}
+use Rattle.paper.specs.Tree.{Condition as cond}
+use Rattle.paper.specs.Tree.Arguments.{no-argument}
 use Rattle.trees.proofs.Arms.{Arm, Child}
+use Rattle.trees.proofs.ByKind.{by-kind}
 use Rattle.parts.specs.declared.Below.{Below}
 use Rattle.parts.specs.declared.Below.the-variants.{Nothing, Condition, Conditions, Operands}
 use Rattle.parts.specs.Entered.{entered-below}
@@ -19,35 +24,36 @@ unentered-kinds = 8 ∷ 10 ∷ 11 ∷ 12 ∷ 13 ∷ 14 ∷ 15 ∷ 16 ∷ 17 ∷ 
 
 pub nothing-entered : (m : Node) → OneOf unentered-kinds (tagOf the-type m) → entered-below m ≡ Nothing
 unfolding entered-below
-nothing-entered (node.And l r) h = absurd (miss unentered-kinds 0 tt h)
-nothing-entered (node.Or l r) h = absurd (miss unentered-kinds 1 tt h)
-nothing-entered (node.Not b) h = absurd (miss unentered-kinds 2 tt h)
-nothing-entered (node.Formerly b w) h = absurd (miss unentered-kinds 3 tt h)
-nothing-entered (node.Previous b w) h = absurd (miss unentered-kinds 4 tt h)
-nothing-entered (node.Since l r w) h = absurd (miss unentered-kinds 5 tt h)
-nothing-entered (node.Exists s y b) h = absurd (miss unentered-kinds 6 tt h)
-nothing-entered (node.Comparison o l r) h = absurd (miss unentered-kinds 7 tt h)
-nothing-entered (node.Predicate a l) h = refl
-nothing-entered (node.Refine b l) h = absurd (miss unentered-kinds 9 tt h)
-nothing-entered (node.Tp s) h = refl
-nothing-entered (node.Call y) h = refl
-nothing-entered (node.SigilRef y) h = refl
-nothing-entered (node.Var x) h = refl
-nothing-entered node.Wildcard h = refl
-nothing-entered (node.Literal y) h = refl
-nothing-entered (node.ScopeField y) h = refl
-nothing-entered (node.ContextField y) h = refl
-nothing-entered (node.ParamRef k) h = refl
-nothing-entered (node.BinderRef k) h = refl
-nothing-entered (node.Array l) h = refl
-nothing-entered (node.Arith o l r) h = refl
-nothing-entered (node.Sum s l b) h = refl
-nothing-entered (node.Count l b) h = refl
-nothing-entered (node.AggregateCall y) h = refl
-nothing-entered node.ListEnd h = refl
-nothing-entered (node.ArgumentCell f x l) h = refl
-nothing-entered (node.ItemCell x l) h = refl
-nothing-entered (node.BinderCell s y l) h = refl
+nothing-entered =
+    by-kind (λ m. OneOf unentered-kinds (tagOf the-type m) → entered-below m ≡ Nothing)
+    (λ l r h. absurd (miss unentered-kinds 0 tt h)) (λ l r h. absurd (miss unentered-kinds 1 tt h)) (λ b h. absurd (miss unentered-kinds 2 tt h))
+    (λ b w h. absurd (miss unentered-kinds 3 tt h)) (λ b w h. absurd (miss unentered-kinds 4 tt h)) (λ l r w h. absurd (miss unentered-kinds 5 tt h))
+    (λ s y b h. absurd (miss unentered-kinds 6 tt h)) (λ o l r h. absurd (miss unentered-kinds 7 tt h)) (λ a l h. refl)
+    (λ b l h. absurd (miss unentered-kinds 9 tt h)) (λ s h. refl) (λ y h. refl) (λ y h. refl) (λ x h. refl) (λ h. refl) (λ y h. refl) (λ y h. refl) (λ y h. refl)
+    (λ k h. refl) (λ k h. refl) (λ l h. refl) (λ o l r h. refl) (λ s l b h. refl) (λ l b h. refl) (λ y h. refl) (λ h. refl) (λ f x l h. refl) (λ x l h. refl)
+    (λ s y l h. refl)
+
+-- a condition with where a walk goes on below it: what is shown for each holds of every planted node
+module _ (t : ℕ → Tree) (n : NodeNo) (P : Below → cond → Type 0)
+    (and : (l r : NodeNo) → P (Conditions l r) (cond.And n (as-condition (t (l .0))) (as-condition (t (r .0)))))
+    (or : (l r : NodeNo) → P (Conditions l r) (cond.Or n (as-condition (t (l .0))) (as-condition (t (r .0)))))
+    (not : (b : NodeNo) → P (Condition b) (cond.Not n (as-condition (t (b .0)))))
+    (past : (k : ℕ) (b : NodeNo) (w : ℕ) → P (Condition b) (cond.Past n k (as-condition (t (b .0))) w))
+    (since : (l r : NodeNo) (w : ℕ) → P (Conditions l r) (cond.Since n (as-condition (t (l .0))) (as-condition (t (r .0))) w))
+    (exists : (s : Slot) (y : ℕ) (b : NodeNo) → P (Condition b) (cond.Exists n s y (as-condition (t (b .0)))))
+    (comparison : (o : ℕ) (l r : NodeNo) → P (Operands l r) (cond.Comparison n o (as-term (t (l .0))) (as-term (t (r .0)))))
+    (predicate : (a : ℕ) (l : NodeNo) → P Nothing (cond.Predicate n a (as-arguments (t (l .0)))))
+    (refine : (b l : NodeNo) → P (Condition b) (cond.Refine n (as-condition (t (b .0))) (as-arguments (t (l .0)))))
+    (tp : (s : Slot) → P Nothing (cond.Tp n s))
+    (opaque : (k y : ℕ) → P Nothing (cond.Opaque n k y))
+    (other : P Nothing (cond.Predicate (node-no 0) 0 (no-argument (node-no 0)))) where
+  pub entered-cases : (m : Node) → P (entered-below m) (as-condition (planted t n m))
+  unfolding planted as-condition entered-below
+  entered-cases =
+      by-kind (λ m. P (entered-below m) (as-condition (planted t n m)))
+      and or not (past 0x13) (past 0x14) since exists comparison predicate refine tp (opaque 0x1B) (opaque 0x1C) (λ x. other) other (λ y. other) (λ y. other)
+      (λ y. other) (λ k. other) (λ k. other) (λ l. other) (λ o l r. other) (λ s l b. other) (λ l b. other) (λ y. other) other (λ f x l. other) (λ x l. other)
+      (λ s y l. other)
 
 module _ (bytes starts : List ℕ) (i : ℕ) where
   -- what a walk knows of where it goes on
@@ -57,37 +63,15 @@ module _ (bytes starts : List ℕ) (i : ℕ) where
   Entered (Conditions l r) = Child bytes starts i condition (l .0) × Child bytes starts i condition (r .0)
   Entered (Operands l r) = Child bytes starts i term (l .0) × Child bytes starts i term (r .0)
 
-  by-kind : (m : Node) → Arm bytes starts i m → Entered (entered-below m)
+  children : (m : Node) → Arm bytes starts i m → Entered (entered-below m)
   unfolding entered-below
-  by-kind (node.And l r) a = (a .children .0, a .children .1 .0)
-  by-kind (node.Or l r) a = (a .children .0, a .children .1 .0)
-  by-kind (node.Not b) a = a .children .0
-  by-kind (node.Formerly b w) a = a .children .0
-  by-kind (node.Previous b w) a = a .children .0
-  by-kind (node.Since l r w) a = (a .children .0, a .children .1 .0)
-  by-kind (node.Exists s y b) a = a .children .0
-  by-kind (node.Comparison o l r) a = (a .children .0, a .children .1 .0)
-  by-kind (node.Predicate q l) a = tt
-  by-kind (node.Refine b l) a = a .children .0
-  by-kind (node.Tp s) a = tt
-  by-kind (node.Call y) a = tt
-  by-kind (node.SigilRef y) a = tt
-  by-kind (node.Var x) a = tt
-  by-kind node.Wildcard a = tt
-  by-kind (node.Literal y) a = tt
-  by-kind (node.ScopeField y) a = tt
-  by-kind (node.ContextField y) a = tt
-  by-kind (node.ParamRef k) a = tt
-  by-kind (node.BinderRef k) a = tt
-  by-kind (node.Array l) a = tt
-  by-kind (node.Arith o l r) a = tt
-  by-kind (node.Sum s l b) a = tt
-  by-kind (node.Count l b) a = tt
-  by-kind (node.AggregateCall y) a = tt
-  by-kind node.ListEnd a = tt
-  by-kind (node.ArgumentCell f x l) a = tt
-  by-kind (node.ItemCell x l) a = tt
-  by-kind (node.BinderCell s y l) a = tt
+  children =
+      by-kind (λ m. Arm bytes starts i m → Entered (entered-below m))
+      (λ l r a. (a .children .0, a .children .1 .0)) (λ l r a. (a .children .0, a .children .1 .0)) (λ b a. a .children .0) (λ b w a. a .children .0)
+      (λ b w a. a .children .0) (λ l r w a. (a .children .0, a .children .1 .0)) (λ s y b a. a .children .0)
+      (λ o l r a. (a .children .0, a .children .1 .0)) (λ q l a. tt) (λ b l a. a .children .0) (λ s a. tt) (λ y a. tt) (λ y a. tt) (λ x a. tt) (λ a. tt)
+      (λ y a. tt) (λ y a. tt) (λ y a. tt) (λ k a. tt) (λ k a. tt) (λ l a. tt) (λ o l r a. tt) (λ s l b a. tt) (λ l b a. tt) (λ y a. tt) (λ a. tt)
+      (λ f x l a. tt) (λ x l a. tt) (λ s y l a. tt)
 
 pub entered : {bytes starts : List ℕ} {i : ℕ} {m : Node} {s : Below} → s ≡ entered-below m → Arm bytes starts i m → Entered bytes starts i s
-entered e a = subst (Entered _ _ _) (sym e) (by-kind _ _ _ _ a)
+entered e a = subst (Entered _ _ _) (sym e) (children _ _ _ _ a)

@@ -37,6 +37,7 @@ use Rattle.places.specs.Itself.{at-itself, scope-first}
 use Rattle.parts.specs.declared.Below.{Below}
 use Rattle.parts.specs.declared.Below.the-variants as below
 use Rattle.parts.specs.Entered.{entered-below}
+use Rattle.parts.proofs.EnteredLaws.{entered-cases}
 use Rattle.scoping.specs.Scoped.{scoped}
 
 then-one : (a b : List Finding) → a ++ (b ++ []) ≡ a ++ b
@@ -144,42 +145,22 @@ module _ (words scope : Set) where
 
     by-kind : (n : NodeNo) (m : Node) → let c = as-condition (planted (tree-of bytes) n m) in
         from (condition c) ≡ at-itself words c ++ goes-on (scope-first c scope) (entered-below m)
-    unfolding planted as-condition scope-below scope-broken gather scoped nested at-itself scope-first entered-below
-    by-kind n (node.And l r) = at _ ∙ then-one (body l) (body r)
-    by-kind n (node.Or l r) = at _ ∙ then-one (body l) (body r)
-    by-kind n (node.Not b) = at _ ∙ append-nil _
-    by-kind n (node.Formerly b w) = at _ ∙ append-nil _
-    by-kind n (node.Previous b w) = at _ ∙ append-nil _
-    by-kind n (node.Since l r w) = at _ ∙ then-one (body l) (body r)
-    by-kind n (node.Exists s y b) =
+    unfolding scope-below scope-broken gather scoped nested at-itself scope-first
+    by-kind n =
+        entered-cases (tree-of bytes) n (λ s c. from (condition c) ≡ at-itself words c ++ goes-on (scope-first c scope) s)
+        (λ l r. at _ ∙ then-one (body l) (body r)) (λ l r. at _ ∙ then-one (body l) (body r)) (λ b. at _ ∙ append-nil _) (λ k b w. at _ ∙ append-nil _)
+        (λ l r w. at _ ∙ then-one (body l) (body r))
+        (λ s y b.
         at _
-        ∙ ap₂ {C = List Finding} _++_ (then-one (findings (for-names 22 n (named s ∩ words))) (findings (for-names 23 n (pick (holds-sigil (condition-of bytes (b .0))) none (named s ∖ restricted (condition-of bytes (b .0)))))))
-        (append-nil _)
-    by-kind n (node.Comparison o l r) = at _ ∙ then-one (side l) (side r)
-    by-kind n (node.Predicate a l) = at _ ∙ append-nil _ ∙ arguments-searched _ ∙ sym (append-nil _)
-    by-kind n (node.Refine b l) = at _ ∙ append-nil _
-    by-kind n (node.Tp s) = at _ ∙ append-nil _
-    by-kind n (node.Call y) = at _
-    by-kind n (node.SigilRef y) = at _
-    by-kind n (node.Var x) = nowhere-scoped _ _ _
-    by-kind n node.Wildcard = nowhere-scoped _ _ _
-    by-kind n (node.Literal y) = nowhere-scoped _ _ _
-    by-kind n (node.ScopeField y) = nowhere-scoped _ _ _
-    by-kind n (node.ContextField y) = nowhere-scoped _ _ _
-    by-kind n (node.ParamRef k) = nowhere-scoped _ _ _
-    by-kind n (node.BinderRef k) = nowhere-scoped _ _ _
-    by-kind n (node.Array l) = nowhere-scoped _ _ _
-    by-kind n (node.Arith o l r) = nowhere-scoped _ _ _
-    by-kind n (node.Sum s l b) = nowhere-scoped _ _ _
-    by-kind n (node.Count l b) = nowhere-scoped _ _ _
-    by-kind n (node.AggregateCall y) = nowhere-scoped _ _ _
-    by-kind n node.ListEnd = nowhere-scoped _ _ _
-    by-kind n (node.ArgumentCell f x l) = nowhere-scoped _ _ _
-    by-kind n (node.ItemCell x l) = nowhere-scoped _ _ _
-    by-kind n (node.BinderCell s y l) = nowhere-scoped _ _ _
+        ∙ ap₂ {C = List Finding} _++_
+        (then-one (findings (for-names 22 n (named s ∩ words)))
+        (findings (for-names 23 n (pick (holds-sigil (condition-of bytes (b .0))) none (named s ∖ restricted (condition-of bytes (b .0)))))))
+        (append-nil _))
+        (λ o l r. at _ ∙ then-one (side l) (side r)) (λ a l. at _ ∙ append-nil _ ∙ arguments-searched _ ∙ sym (append-nil _)) (λ b l. at _ ∙ append-nil _)
+        (λ s. at _ ∙ append-nil _) (λ k y. at _) (nowhere-scoped _ _ _)
 
   module _ {bytes starts : List ℕ} {i : ℕ} where
-    pub in-condition : {m : Node} → Arm bytes starts i m → from (condition (condition-of bytes i)) ≡ from (condition (as-condition (planted (tree-of bytes) (node-no i)
+    in-condition : {m : Node} → Arm bytes starts i m → from (condition (condition-of bytes i)) ≡ from (condition (as-condition (planted (tree-of bytes) (node-no i)
         m)))
     in-condition a = ap (λ (t : Tree). from (condition (as-condition t))) (a .tree)
 
@@ -188,8 +169,11 @@ module _ (words scope : Set) where
         → from (condition (condition-of bytes i)) ≡ at-itself words (condition-of bytes i) ++ goes-on bytes inner s
     scoped-entered a e f =
         in-condition a ∙ by-kind bytes _ _
-        ∙ sym (ap₂ {C = List Finding} _++_ (ap (λ (t : Tree). at-itself words (as-condition t)) (a .tree)) (rw (e, f ∙ ap (λ (t : Tree). scope-first (as-condition t) scope) (a
-        .tree))))
+        ∙ sym (ap₂ {C = List Finding} _++_ (ap (λ (t : Tree). at-itself words (as-condition t)) (a .tree)) (rw (
+          e,
+          f ∙ ap (λ (t : Tree). scope-first (as-condition t) scope) (a
+              .tree),
+        )))
 
     -- ---- operands
 

@@ -86,7 +86,7 @@ module _ (P : Node → Type 0)
     (arg : (f : ℕ) (x l : NodeNo) → P (node.ArgumentCell f x l))
     (item : (x l : NodeNo) → P (node.ItemCell x l))
     (cell : (s : Slot) (y : ℕ) (l : NodeNo) → P (node.BinderCell s y l)) where
-  by-kind : (m : Node) → P m
+  pub by-kind : (m : Node) → P m
   by-kind (node.And l r) = and l r
   by-kind (node.Or l r) = or l r
   by-kind (node.Not b) = not b

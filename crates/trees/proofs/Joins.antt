@@ -1,70 +1,21 @@
--- A walk that joins what it finds in the parts of a node: what it finds at a node, from what it finds at the nodes below. Each law is over the walk and the
+-- A walk that joins what it finds in the parts of a term: what it finds at a node, from what it finds at the nodes below. Each law is over the walk and the
 -- operation that joins. Assumes nothing.
 use mathlib.Core.Path.{_≡_, sym, ap, ap₂, _∙_}
 use mathlib.Core.Bool.{Bool, true, false, _||_}
 use mathlib.Core.List.{List}
 use Prim.Native.Nat.{ℕ}
 use Rattle.paper.specs.declared.NodeNo.{NodeNo}
-use Rattle.paper.specs.declared.Slot.{Slot}
 use Rattle.paper.specs.declared.Node.{Node}
 use Rattle.paper.specs.declared.Node.the-variants as node
-use Rattle.paper.specs.Tree.{Condition, Term, Arguments, Items, Tree, as-condition, planted}
-use Rattle.paper.specs.Tree.Condition.{And, Or, Not, Past, Since, Exists, Refine}
+use Rattle.paper.specs.Tree.{Term, Arguments, Items, Tree, planted}
 use Rattle.paper.specs.Tree.Term.{Array, Arith}
 use Rattle.paper.specs.Tree.Arguments.{no-argument, argument}
 use Rattle.paper.specs.Tree.Items.{no-item, item}
-use Rattle.trees.specs.Trees.{tree-of, condition-of, in-terms}
+use Rattle.trees.specs.Trees.{tree-of, in-terms}
 use Rattle.trees.proofs.Arms.{Arm}
 use Rattle.trees.proofs.Sorts.{at-term, at-arguments, at-items}
 use Rattle.trees.proofs.Shapes as shape
-use Rattle.trees.proofs.Shapes.{Two, One, Body, Base, Unbound, Terms}
-
--- ---- conditions
-
-pub record JoinsTwo {A : Type 0} (f : Condition → A) (op : A → A → A) : Type 0 where
-  pub and : (n : NodeNo) (l r : Condition) → f (And n l r) ≡ op (f l) (f r)
-  pub or : (n : NodeNo) (l r : Condition) → f (Or n l r) ≡ op (f l) (f r)
-  pub since : (n : NodeNo) (l r : Condition) (w : ℕ) → f (Since n l r w) ≡ op (f l) (f r)
-
-pub two-law : {A : Type 0} {f : Condition → A} {op : A → A → A} → JoinsTwo f op → {bytes starts : List ℕ} {i : ℕ} {l r : NodeNo} {m : Node}
-    → Two l r m → Arm bytes starts i m → f (condition-of bytes i) ≡ op (f (condition-of bytes (l .0))) (f (condition-of bytes (r .0)))
-unfolding planted as-condition
-two-law {f = f} j shape.and a = ap (λ (t : Tree). f (as-condition t)) (a .tree) ∙ j .and _ _ _
-two-law {f = f} j shape.or a = ap (λ (t : Tree). f (as-condition t)) (a .tree) ∙ j .or _ _ _
-two-law {f = f} j shape.since a = ap (λ (t : Tree). f (as-condition t)) (a .tree) ∙ j .since _ _ _ _
-
--- a walk that looks through a node at its condition
-pub record PassesOne {A : Type 0} (f : Condition → A) : Type 0 where
-  pub not : (n : NodeNo) (b : Condition) → f (Not n b) ≡ f b
-  pub past : (n : NodeNo) (k : ℕ) (b : Condition) (w : ℕ) → f (Past n k b w) ≡ f b
-
-pub one-law : {A : Type 0} {f : Condition → A} → PassesOne f → {bytes starts : List ℕ} {i : ℕ} {b : NodeNo} {m : Node}
-    → One b m → Arm bytes starts i m → f (condition-of bytes i) ≡ f (condition-of bytes (b .0))
-unfolding planted as-condition
-one-law {f = f} j shape.not a = ap (λ (t : Tree). f (as-condition t)) (a .tree) ∙ j .not _ _
-one-law {f = f} j shape.formerly a = ap (λ (t : Tree). f (as-condition t)) (a .tree) ∙ j .past _ _ _ _
-one-law {f = f} j shape.previous a = ap (λ (t : Tree). f (as-condition t)) (a .tree) ∙ j .past _ _ _ _
-
-pub body-law : {A : Type 0} {f : Condition → A} → PassesOne f → ((n : NodeNo) (s : Slot) (y : ℕ) (b : Condition) → f (Exists n s y b) ≡ f b)
-    → {bytes starts : List ℕ} {i : ℕ} {b : NodeNo} {m : Node} → Body b m → Arm bytes starts i m → f (condition-of bytes i) ≡ f (condition-of bytes (b .0))
-unfolding planted as-condition
-body-law j e (shape.one s) a = one-law j s a
-body-law {f = f} j e shape.exists a = ap (λ (t : Tree). f (as-condition t)) (a .tree) ∙ e _ _ _ _
-
-pub base-law : {A : Type 0} {f : Condition → A} → PassesOne f → ((n : NodeNo) (s : Slot) (y : ℕ) (b : Condition) → f (Exists n s y b) ≡ f b)
-    → ((n : NodeNo) (b : Condition) (l : Arguments) → f (Refine n b l) ≡ f b) → {bytes starts : List ℕ} {i : ℕ} {b : NodeNo} {m : Node} → Base b m
-    → Arm bytes starts i m → f (condition-of bytes i) ≡ f (condition-of bytes (b .0))
-unfolding planted as-condition
-base-law j e r (shape.body s) a = body-law j e s a
-base-law {f = f} j e r shape.refine a = ap (λ (t : Tree). f (as-condition t)) (a .tree) ∙ r _ _ _
-
-pub unbound-law : {A : Type 0} {f : Condition → A} → PassesOne f → ((n : NodeNo) (b : Condition) (l : Arguments) → f (Refine n b l) ≡ f b)
-    → {bytes starts : List ℕ} {i : ℕ} {b : NodeNo} {m : Node} → Unbound b m → Arm bytes starts i m → f (condition-of bytes i) ≡ f (condition-of bytes (b .0))
-unfolding planted as-condition
-unbound-law j r (Unbound.one s) a = one-law j s a
-unbound-law {f = f} j r Unbound.refine a = ap (λ (t : Tree). f (as-condition t)) (a .tree) ∙ r _ _ _
-
--- ---- terms
+use Rattle.trees.proofs.Shapes.{Terms}
 
 pub record JoinsTerms {A : Type 0} (f : Term → A) (g : Arguments → A) (h : Items → A) (v : A) (op : A → A → A) : Type 0 where
   pub array : (n : NodeNo) (l : Items) → f (Array n l) ≡ h l
