@@ -36,7 +36,7 @@ use Rattle.owed.specs.Demanded.{demanded}
 use Rattle.listing.specs.declared.Check.{Check}
 use Rattle.listing.specs.declared.Check.the-variants.{Scoping, Closedness, Demands}
 use Rattle.listing.specs.Parts.{Last, demands-of, part-of, listed, Filled}
-use Rattle.accepted.specs.Ready.{Ready, Reserved, Asked, part-asked}
+use Rattle.accepted.specs.Ready.{Ready, Reserved, ReservedFor, part-asked}
 
 module _ (bytes starts : List ℕ) {k : ℕ} (p : Ready bytes starts k) where
   told : Told bytes (p .names) k
@@ -82,8 +82,8 @@ module _ (bytes starts : List ℕ) {k : ℕ} (p : Ready bytes starts k) where
     unfolding demands-of demanded demands-part root
     demanded-part = ap (λ (m : NodeNo). demands-of (condition-of bytes (m .0))) (sym (last-node i d))
 
-    part-is : (check : Check) → Asked bytes check → part-of check i (condition-of bytes (i .0)) ≡ part-asked check (contents bytes)
-    unfolding part-of part-asked Asked
+    part-is : (check : Check) → ReservedFor bytes check → part-of check i (condition-of bytes (i .0)) ≡ part-asked check (contents bytes)
+    unfolding part-of part-asked ReservedFor
     part-is (Scoping seed words) reserves = scoped-part words reserves (mem seed)
     part-is Closedness _ = untied-part
     part-is Demands _ = demanded-part
@@ -100,15 +100,15 @@ module _ (bytes starts : List ℕ) {k : ℕ} (p : Ready bytes starts k) where
     part-fits Closedness = closedness-fits (contents bytes) (told .formed)
     part-fits Demands = demands-fits (contents bytes) (told .formed)
 
-    module _ (check : Check) (asked : Asked bytes check) where
+    module _ (check : Check) (reserves : ReservedFor bytes check) where
       pub part-room : Room (part-of check i (condition-of bytes (i .0))) 0
-      part-room = room-is (sym (part-is check asked)) (let l = part-length check in record { left = omega arith })
+      part-room = room-is (sym (part-is check reserves)) (let l = part-length check in record { left = omega arith })
 
       pub part-told : {x count : ℕ} {after : List ℕ} → Wrote (part-of check i (condition-of bytes (i .0))) 0 count (x ∷ []) after
           → answer-of count (getD after 0 0) ≡ answered (part-asked check) (read bytes)
       unfolding answered
       part-told w =
-          first-told (part-asked check (contents bytes)) (part-fits check) (wrote-is (sym (part-is check asked)) w)
+          first-told (part-asked check (contents bytes)) (part-fits check) (wrote-is (sym (part-is check reserves)) w)
           ∙ sym (ap (answered (part-asked check)) (told .outcome))
 
     pub arithmetic-told : arithmetic bytes ≡ pick (has-arith (condition-of bytes (i .0))) arith.Yes arith.No

@@ -29,8 +29,8 @@ part-asked (Scoping seed words) c = scoping-part c (mem seed)
 part-asked Closedness c = closedness-part c
 part-asked Demands c = demands-part c
 
--- the words that scoping is asked with are the reserved ones
-unfoldable pub Asked : List ℕ → Check → Type 0
-Asked bytes (Scoping seed words) = Reserved bytes words
-Asked bytes Closedness = Unit {0}
-Asked bytes Demands = Unit {0}
+-- the words that a check is asked with are the reserved ones; scoping alone is asked with any
+unfoldable pub ReservedFor : List ℕ → Check → Type 0
+ReservedFor bytes (Scoping seed words) = Reserved bytes words
+ReservedFor bytes Closedness = Unit {0}
+ReservedFor bytes Demands = Unit {0}

@@ -15,7 +15,7 @@ ghost use Prim.Native.Nat.{_-_, _<_, _≤_};
 ghost use Rattle.paper.specs.Record.{node-no};
 ghost use Rattle.paper.specs.TurnedAway.{read};
 ghost use Rattle.paper.specs.Questions.{answered, arithmetic as arithmetic-answer, list as list-answer, list-buffer};
-ghost use Rattle.accepted.specs.Ready.{Ready, Reserved, Asked, part-asked};
+ghost use Rattle.accepted.specs.Ready.{Ready, Reserved, ReservedFor, part-asked};
 
 // The last node.
 fn root(nodes: usize) -> NodeNo
@@ -26,8 +26,8 @@ fn root(nodes: usize) -> NodeNo
 }
 
 // The first entry of the part that a check asks for; or accepted.
-pub fn checked(bytes: &[u8], starts: &[u16; 512], nodes: usize, check: Check) -> Answer
-    requires { ⌜ Ready (now bytes) (now starts) nodes × Asked (now bytes) check ⌝ }
+pub fn answer_check(bytes: &[u8], starts: &[u16; 512], nodes: usize, check: Check) -> Answer
+    requires { ⌜ Ready (now bytes) (now starts) nodes × ReservedFor (now bytes) check ⌝ }
     ensures { λ r. ⌜ r ≡ answered (part-asked check) (read (now (bytes .entry))) ⌝ }
 {
     let mut one = [0u32; 1];

@@ -1,4 +1,4 @@
-// The fields of one node record. A field reader is handed the part of the record after its kind byte.
+// A new node: the fields of its record, and its depth. A field reader is handed the part of the record after its kind byte.
 ghost use mathlib.Core.Path.{_≡_};
 ghost use Prim.Native.Nat.{_<_};
 ghost use lib.ListN.{getD};

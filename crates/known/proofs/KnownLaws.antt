@@ -9,7 +9,7 @@ use Rattle.paper.proofs.Node.{the-type}
 use Rattle.paper.specs.declared.NodeNo.{NodeNo}
 use Rattle.paper.specs.declared.Node.{Node}
 use Rattle.paper.specs.declared.Node.the-variants as node
-use Rattle.paper.specs.Sets.{Set, none, _∪_, _∖_}
+use Rattle.paper.specs.Sets.{Set, none, _∪_}
 use Rattle.paper.specs.Record.{condition, term, arguments, items, binders}
 use Rattle.paper.specs.Shape.{references}
 use Rattle.paper.specs.Tree as tree
@@ -20,6 +20,7 @@ use Rattle.paper.specs.FreeAndRestricted.{named, binder-names, free, term-free,
 use Rattle.paper.proofs.Walks.{All}
 use Rattle.paper.proofs.Weights.{of-sort}
 use Rattle.trees.specs.Trees.{is-condition, is-term}
+use Rattle.trees.proofs.ByKind.{by-kind}
 use Rattle.known.specs.declared.Parts.the-variants.{Leaf}
 use Rattle.known.specs.Plain.{plain, plain-argument, plain-arguments}
 use Rattle.known.specs.Known.{Known, parts-of, nothing, opaque, naming, join, apart, bound, loose, condition-known, term-known, arguments-known, items-known, known-of, own}
@@ -164,35 +165,17 @@ plain-kinds = 14 ∷ 15 ∷ 16 ∷ 17 ∷ 25 ∷ 28 ∷ []
 
 pub nothing-own : (t : ℕ → Tree) (m : Node) → OneOf plain-kinds (tagOf the-type m) → own t m ≡ nothing
 unfolding own
-nothing-own t (node.And l r) h = absurd (miss plain-kinds 0 tt h)
-nothing-own t (node.Or l r) h = absurd (miss plain-kinds 1 tt h)
-nothing-own t (node.Not b) h = absurd (miss plain-kinds 2 tt h)
-nothing-own t (node.Formerly b w) h = absurd (miss plain-kinds 3 tt h)
-nothing-own t (node.Previous b w) h = absurd (miss plain-kinds 4 tt h)
-nothing-own t (node.Since l r w) h = absurd (miss plain-kinds 5 tt h)
-nothing-own t (node.Exists s y b) h = absurd (miss plain-kinds 6 tt h)
-nothing-own t (node.Comparison o l r) h = absurd (miss plain-kinds 7 tt h)
-nothing-own t (node.Predicate a l) h = absurd (miss plain-kinds 8 tt h)
-nothing-own t (node.Refine b l) h = absurd (miss plain-kinds 9 tt h)
-nothing-own t (node.Tp s) h = absurd (miss plain-kinds 10 tt h)
-nothing-own t (node.Call y) h = absurd (miss plain-kinds 11 tt h)
-nothing-own t (node.SigilRef y) h = absurd (miss plain-kinds 12 tt h)
-nothing-own t (node.Var x) h = absurd (miss plain-kinds 13 tt h)
-nothing-own t node.Wildcard h = refl
-nothing-own t (node.Literal y) h = refl
-nothing-own t (node.ScopeField y) h = refl
-nothing-own t (node.ContextField y) h = refl
-nothing-own t (node.ParamRef k) h = absurd (miss plain-kinds 18 tt h)
-nothing-own t (node.BinderRef k) h = absurd (miss plain-kinds 19 tt h)
-nothing-own t (node.Array l) h = absurd (miss plain-kinds 20 tt h)
-nothing-own t (node.Arith o l r) h = absurd (miss plain-kinds 21 tt h)
-nothing-own t (node.Sum s l b) h = absurd (miss plain-kinds 22 tt h)
-nothing-own t (node.Count l b) h = absurd (miss plain-kinds 23 tt h)
-nothing-own t (node.AggregateCall y) h = absurd (miss plain-kinds 24 tt h)
-nothing-own t node.ListEnd h = refl
-nothing-own t (node.ArgumentCell g x l) h = absurd (miss plain-kinds 26 tt h)
-nothing-own t (node.ItemCell x l) h = absurd (miss plain-kinds 27 tt h)
-nothing-own t (node.BinderCell s y l) h = refl
+nothing-own t =
+    by-kind (λ m. OneOf plain-kinds (tagOf the-type m) → own t m ≡ nothing)
+    (λ l r h. absurd (miss plain-kinds 0 tt h)) (λ l r h. absurd (miss plain-kinds 1 tt h)) (λ b h. absurd (miss plain-kinds 2 tt h))
+    (λ b w h. absurd (miss plain-kinds 3 tt h)) (λ b w h. absurd (miss plain-kinds 4 tt h)) (λ l r w h. absurd (miss plain-kinds 5 tt h))
+    (λ s y b h. absurd (miss plain-kinds 6 tt h)) (λ o l r h. absurd (miss plain-kinds 7 tt h)) (λ a l h. absurd (miss plain-kinds 8 tt h))
+    (λ b l h. absurd (miss plain-kinds 9 tt h)) (λ s h. absurd (miss plain-kinds 10 tt h)) (λ y h. absurd (miss plain-kinds 11 tt h))
+    (λ y h. absurd (miss plain-kinds 12 tt h)) (λ x h. absurd (miss plain-kinds 13 tt h)) (λ h. refl) (λ y h. refl) (λ y h. refl) (λ y h. refl)
+    (λ k h. absurd (miss plain-kinds 18 tt h)) (λ k h. absurd (miss plain-kinds 19 tt h)) (λ l h. absurd (miss plain-kinds 20 tt h))
+    (λ o l r h. absurd (miss plain-kinds 21 tt h)) (λ s l b h. absurd (miss plain-kinds 22 tt h)) (λ l b h. absurd (miss plain-kinds 23 tt h))
+    (λ y h. absurd (miss plain-kinds 24 tt h)) (λ h. refl) (λ g x l h. absurd (miss plain-kinds 26 tt h)) (λ x l h. absurd (miss plain-kinds 27 tt h))
+    (λ s y l h. refl)
 
 -- Call, SigilRef, ParamRef, BinderRef and the aggregate Call
 abbrev opaque-kinds : List ℕ
@@ -200,35 +183,17 @@ opaque-kinds = 11 ∷ 12 ∷ 18 ∷ 19 ∷ 24 ∷ []
 
 pub opaque-own : (t : ℕ → Tree) (m : Node) → OneOf opaque-kinds (tagOf the-type m) → own t m ≡ opaque
 unfolding own
-opaque-own t (node.And l r) h = absurd (miss opaque-kinds 0 tt h)
-opaque-own t (node.Or l r) h = absurd (miss opaque-kinds 1 tt h)
-opaque-own t (node.Not b) h = absurd (miss opaque-kinds 2 tt h)
-opaque-own t (node.Formerly b w) h = absurd (miss opaque-kinds 3 tt h)
-opaque-own t (node.Previous b w) h = absurd (miss opaque-kinds 4 tt h)
-opaque-own t (node.Since l r w) h = absurd (miss opaque-kinds 5 tt h)
-opaque-own t (node.Exists s y b) h = absurd (miss opaque-kinds 6 tt h)
-opaque-own t (node.Comparison o l r) h = absurd (miss opaque-kinds 7 tt h)
-opaque-own t (node.Predicate a l) h = absurd (miss opaque-kinds 8 tt h)
-opaque-own t (node.Refine b l) h = absurd (miss opaque-kinds 9 tt h)
-opaque-own t (node.Tp s) h = absurd (miss opaque-kinds 10 tt h)
-opaque-own t (node.Call y) h = refl
-opaque-own t (node.SigilRef y) h = refl
-opaque-own t (node.Var x) h = absurd (miss opaque-kinds 13 tt h)
-opaque-own t node.Wildcard h = absurd (miss opaque-kinds 14 tt h)
-opaque-own t (node.Literal y) h = absurd (miss opaque-kinds 15 tt h)
-opaque-own t (node.ScopeField y) h = absurd (miss opaque-kinds 16 tt h)
-opaque-own t (node.ContextField y) h = absurd (miss opaque-kinds 17 tt h)
-opaque-own t (node.ParamRef k) h = refl
-opaque-own t (node.BinderRef k) h = refl
-opaque-own t (node.Array l) h = absurd (miss opaque-kinds 20 tt h)
-opaque-own t (node.Arith o l r) h = absurd (miss opaque-kinds 21 tt h)
-opaque-own t (node.Sum s l b) h = absurd (miss opaque-kinds 22 tt h)
-opaque-own t (node.Count l b) h = absurd (miss opaque-kinds 23 tt h)
-opaque-own t (node.AggregateCall y) h = refl
-opaque-own t node.ListEnd h = absurd (miss opaque-kinds 25 tt h)
-opaque-own t (node.ArgumentCell g x l) h = absurd (miss opaque-kinds 26 tt h)
-opaque-own t (node.ItemCell x l) h = absurd (miss opaque-kinds 27 tt h)
-opaque-own t (node.BinderCell s y l) h = absurd (miss opaque-kinds 28 tt h)
+opaque-own t =
+    by-kind (λ m. OneOf opaque-kinds (tagOf the-type m) → own t m ≡ opaque)
+    (λ l r h. absurd (miss opaque-kinds 0 tt h)) (λ l r h. absurd (miss opaque-kinds 1 tt h)) (λ b h. absurd (miss opaque-kinds 2 tt h))
+    (λ b w h. absurd (miss opaque-kinds 3 tt h)) (λ b w h. absurd (miss opaque-kinds 4 tt h)) (λ l r w h. absurd (miss opaque-kinds 5 tt h))
+    (λ s y b h. absurd (miss opaque-kinds 6 tt h)) (λ o l r h. absurd (miss opaque-kinds 7 tt h)) (λ a l h. absurd (miss opaque-kinds 8 tt h))
+    (λ b l h. absurd (miss opaque-kinds 9 tt h)) (λ s h. absurd (miss opaque-kinds 10 tt h)) (λ y h. refl) (λ y h. refl)
+    (λ x h. absurd (miss opaque-kinds 13 tt h)) (λ h. absurd (miss opaque-kinds 14 tt h)) (λ y h. absurd (miss opaque-kinds 15 tt h))
+    (λ y h. absurd (miss opaque-kinds 16 tt h)) (λ y h. absurd (miss opaque-kinds 17 tt h)) (λ k h. refl) (λ k h. refl)
+    (λ l h. absurd (miss opaque-kinds 20 tt h)) (λ o l r h. absurd (miss opaque-kinds 21 tt h)) (λ s l b h. absurd (miss opaque-kinds 22 tt h))
+    (λ l b h. absurd (miss opaque-kinds 23 tt h)) (λ y h. refl) (λ h. absurd (miss opaque-kinds 25 tt h)) (λ g x l h. absurd (miss opaque-kinds 26 tt h))
+    (λ x l h. absurd (miss opaque-kinds 27 tt h)) (λ s y l h. absurd (miss opaque-kinds 28 tt h))
 
 -- what has no part
 abbrev leaf-kinds : List ℕ

@@ -1,5 +1,5 @@
 -- Two answers that a contract of the C face allows coincide, and any bytes may be asked about, over what the toolchain makes of each contract. Assumes nothing.
-use mathlib.Core.Path.{_≡_, sym, _∙_}
+use mathlib.Core.Path.{sym, _∙_}
 use mathlib.Core.List.{List}
 use Prim.Native.Nat.{ℕ}
 use denote.Ref.{now}

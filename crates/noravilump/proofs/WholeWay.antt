@@ -1,8 +1,7 @@
 -- The whole way at the C face: after `noravilump_list` of accepted bytes a buffer with room begins with the number of each unmet entry, and the answer is number 0
 -- with their count for its place. What holds of the buffer is what `questions` shows of `list`. Assumes nothing.
 use mathlib.Core.Path.{_≡_, refl, ap, _∙_}
-use mathlib.Core.List.{List}
-use Prim.Native.Nat.{ℕ, _≤_}
+use Prim.Native.Nat.{_≤_}
 use lib.ListN.{length}
 use contract.Lifetimes.{Lfts}
 use denote.Ref.{now}

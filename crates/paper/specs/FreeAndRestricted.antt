@@ -2,8 +2,6 @@
 use Prim.Native.Nat.{ℕ}
 use mathlib.Core.Bool.{Bool, true, false, not, _||_}
 use lib.Dec.{eqb}
-use Rattle.paper.specs.declared.NodeNo.{NodeNo}
-use Rattle.paper.specs.declared.NameNo.{NameNo}
 use Rattle.paper.specs.declared.Slot.{Slot}
 use Rattle.paper.specs.declared.Slot.the-variants as slot
 use Rattle.paper.specs.declared.Subject.{Subject}

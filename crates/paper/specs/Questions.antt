@@ -1,7 +1,6 @@
 -- The public questions: for each, its answer as a function of the bytes, and of the seed or the lent buffer; and document 01's numbers for the
 -- cases of each answer. "A refusal by the reader is passed up unchanged by every question but the name lookup." Assumes nothing: these are definitions.
 use Prim.Native.Nat.{ℕ, _+_, _*_}
-use mathlib.Core.Bool.{Bool, true, false}
 use mathlib.Core.List.{List, [], _∷_, _++_}
 use lib.Dec.{leb, ltb}
 use lib.ListN.{length, drop}

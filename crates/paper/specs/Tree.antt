@@ -1,7 +1,7 @@
 -- The tree of a record (document 01, 'The record'): conditions, terms and lists, each with its node number and every field of its record.
 -- Node k's tree is made from node k and the trees before it, since every reference is below its own node. Assumes nothing: these are definitions.
 use Prim.Native.Nat.{ℕ, zero, suc, _+_, _-_}
-use mathlib.Core.Bool.{Bool, true, false}
+use mathlib.Core.Bool.{true, false}
 use mathlib.Core.List.{List}
 use lib.Dec.{eqb}
 use lib.ListN.{length, getD}

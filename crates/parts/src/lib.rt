@@ -1,4 +1,4 @@
-// The parts of a node.
+// The parts of a node, and where a walk goes on below it.
 use known::Parts;
 use paper::Node;
 use paper::NodeNo;

@@ -1,11 +1,12 @@
 -- What `check_itself` finds at a node, and what `scope_first` says of it. Assumes nothing.
 use mathlib.Core.Path.{_≡_, refl, sym, ap, _∙_}
-use mathlib.Core.List.{List, [], _∷_, _++_}
+use mathlib.Core.List.{List, [], _∷_, _++_, append-nil}
 use Prim.Native.Nat.{ℕ}
 use types.Run.{OneOf, miss}
 use denote.Enum.Declared.{tagOf}
 use Rattle.paper.proofs.Node.{the-type}
 use Rattle.paper.specs.declared.NodeNo.{NodeNo}
+use Rattle.paper.specs.declared.Finding.{Finding}
 use Rattle.paper.specs.declared.Slot.{Slot}
 use Rattle.paper.specs.declared.Node.{Node}
 use Rattle.paper.specs.declared.Node.the-variants as node
@@ -13,14 +14,14 @@ use Rattle.paper.specs.Record.{pick, node-no}
 use Rattle.paper.specs.Sets.{Set, none, _∪_, _∩_, _∖_}
 use Rattle.paper.specs.Tree.{Tree, as-condition, planted}
 use Rattle.paper.specs.FreeAndRestricted.{named, restricted, holds-sigil}
-use Rattle.paper.specs.Places.{for-names, findings}
-use Rattle.paper.specs.Scoping.{scope-below}
+use Rattle.paper.specs.Places.{for-names, gather, findings}
+use Rattle.paper.specs.Scoping.{scope-below, scope-broken}
 use Rattle.trees.specs.Trees.{tree-of, condition-of}
 use Rattle.trees.proofs.Arms.{Arm}
 use Rattle.trees.proofs.Sorts.{at-arguments}
 use Rattle.trees.proofs.ByKind.{condition-cases}
 use Rattle.places.specs.Nested.{nested, nested-arguments, nested-items, nested-in}
-use Rattle.places.specs.Itself.{at-itself, scope-first, ScopeFirst}
+use Rattle.places.specs.Itself.{in-arguments, at-itself, scope-first, ScopeFirst}
 use Rattle.places.proofs.NestedLaws.{no-argument-nested}
 
 -- all but an exists, a predicate and a tp
@@ -29,12 +30,12 @@ silent-kinds =
     0 ∷ 1 ∷ 2 ∷ 3 ∷ 4 ∷ 5 ∷ 7 ∷ 9 ∷ 11 ∷ 12 ∷ 13 ∷ 14 ∷ 15 ∷ 16 ∷ 17 ∷ 18 ∷ 19 ∷ 20 ∷ 21 ∷ 22 ∷ 23 ∷ 24 ∷ 25 ∷ 26 ∷ 27 ∷ 28 ∷ []
 
 silent : (words : Set) (t : ℕ → Tree) (n : NodeNo) (m : Node) → OneOf silent-kinds (tagOf the-type m) → at-itself words (as-condition (planted t n m)) ≡ []
-unfolding at-itself nested
+unfolding at-itself in-arguments scope-broken gather
 silent words t n =
     condition-cases t n (λ m z. OneOf silent-kinds (tagOf the-type m) → at-itself words z ≡ [])
     (λ l r h. refl) (λ l r h. refl) (λ b h. refl) (λ b w h. refl) (λ b w h. refl) (λ l r w h. refl) (λ s y b h. absurd (miss silent-kinds 6 tt h)) (λ o l r h. refl)
     (λ a l h. absurd (miss silent-kinds 8 tt h)) (λ b l h. refl) (λ s h. absurd (miss silent-kinds 10 tt h)) (λ y h. refl) (λ y h. refl)
-    (λ m e h. refl)
+    (λ m e h. no-argument-nested _)
 
 module _ (words : Set) {bytes starts : List ℕ} {i : ℕ} where
   in-itself : {m : Node} → Arm bytes starts i m → at-itself words (condition-of bytes i) ≡ at-itself words (as-condition (planted (tree-of bytes) (node-no i) m))
@@ -44,16 +45,16 @@ module _ (words : Set) {bytes starts : List ℕ} {i : ℕ} where
       → at-itself words (condition-of bytes i)
       ≡ findings (for-names 22 (node-no i) (named s ∩ words))
       ++ findings (for-names 23 (node-no i) (pick (holds-sigil (condition-of bytes (b .0))) none (named s ∖ restricted (condition-of bytes (b .0)))))
-  unfolding planted as-condition at-itself
-  itself-exists a = in-itself a
+  unfolding planted as-condition at-itself in-arguments scope-broken gather
+  itself-exists {s = s} a = in-itself a ∙ append-nil _ ∙ ap (λ (z : List Finding). findings (for-names 22 (node-no i) (named s ∩ words)) ++ z) (append-nil _)
 
   pub itself-predicate : {q : ℕ} {l : NodeNo} → Arm bytes starts i (node.Predicate q l) → at-itself words (condition-of bytes i) ≡ nested-in (tree-of bytes (l .0))
-  unfolding planted as-condition at-itself
+  unfolding planted as-condition at-itself in-arguments scope-broken gather
   itself-predicate a = in-itself a ∙ sym (at-arguments nested nested-arguments nested-items [] no-argument-nested _ (a .children .0 .fits))
 
   pub itself-tp : {s : Slot} → Arm bytes starts i (node.Tp s) → at-itself words (condition-of bytes i) ≡ findings (for-names 22 (node-no i) (named s ∩ words))
-  unfolding planted as-condition at-itself
-  itself-tp a = in-itself a
+  unfolding planted as-condition at-itself in-arguments scope-broken gather
+  itself-tp a = in-itself a ∙ append-nil _ ∙ append-nil _
 
   pub itself-none : {m : Node} → Arm bytes starts i m → OneOf silent-kinds (tagOf the-type m) → at-itself words (condition-of bytes i) ≡ []
   itself-none a h = in-itself a ∙ silent words _ _ _ h

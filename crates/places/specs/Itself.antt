@@ -6,28 +6,30 @@ use lib.ListN.{getD}
 use Rattle.paper.specs.declared.NodeNo.{NodeNo}
 use Rattle.paper.specs.declared.Finding.{Finding}
 use Rattle.paper.specs.declared.Node.{Node}
-use Rattle.paper.specs.Record.{pick}
-use Rattle.paper.specs.Sets.{Set, none, _∩_, _∖_}
+use Rattle.paper.specs.Sets.{Set, none}
 use Rattle.paper.specs.Tree.{Condition, Tree, as-condition, planted}
 use Rattle.paper.specs.Tree.Condition.{And, Or, Not, Past, Since, Exists, Comparison, Predicate, Refine, Tp, Opaque}
-use Rattle.paper.specs.FreeAndRestricted.{named, restricted, holds-sigil}
-use Rattle.paper.specs.Places.{condition, asked-at, for-names, findings}
-use Rattle.paper.specs.Scoping.{scope-below}
+use Rattle.paper.specs.Places.{condition, asked-at, gather, findings}
+use Rattle.paper.specs.Scoping.{scope-below, scope-broken}
 use Rattle.places.specs.Nested.{nested-arguments}
 
--- with these words reserved
+-- what is found in the arguments that a condition searches
+unfoldable pub in-arguments : Condition → List Finding
+in-arguments (And n l r) = []
+in-arguments (Or n l r) = []
+in-arguments (Not n b) = []
+in-arguments (Past n k b w) = []
+in-arguments (Since n l r w) = []
+in-arguments (Exists n s y b) = []
+in-arguments (Comparison n o l r) = []
+in-arguments (Predicate n a l) = nested-arguments l
+in-arguments (Refine n b l) = []
+in-arguments (Tp n s) = []
+in-arguments (Opaque n k y) = []
+
+-- what is broken at a condition, with these words reserved, and what is found in its arguments
 unfoldable pub at-itself : Set → Condition → List Finding
-at-itself words (And n l r) = []
-at-itself words (Or n l r) = []
-at-itself words (Not n b) = []
-at-itself words (Past n k b w) = []
-at-itself words (Since n l r w) = []
-at-itself words (Exists n s y b) = findings (for-names 22 n (named s ∩ words)) ++ findings (for-names 23 n (pick (holds-sigil b) none (named s ∖ restricted b)))
-at-itself words (Comparison n o l r) = []
-at-itself words (Predicate n a l) = nested-arguments l
-at-itself words (Refine n b l) = []
-at-itself words (Tp n s) = findings (for-names 22 n (named s ∩ words))
-at-itself words (Opaque n k y) = []
+at-itself words c = gather findings (scope-broken words (asked-at (condition c) none)) ++ in-arguments c
 
 -- what is in scope at the first place below a condition; at the condition itself where there is none
 unfoldable pub scope-first : Condition → Set → Set

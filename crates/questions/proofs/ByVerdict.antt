@@ -8,12 +8,9 @@ use Rattle.paper.specs.declared.Verdict.the-variants.{Counts, Refused}
 use Rattle.paper.specs.declared.Answer.the-variants as answer
 use Rattle.paper.specs.declared.Arithmetic.the-variants as arith
 use Rattle.paper.specs.declared.Listing.the-variants as listing
-use Rattle.paper.specs.Sets.{Set}
 use Rattle.paper.specs.TurnedAway as outcome
 use Rattle.paper.specs.TurnedAway.{Contents, Outcome, read}
-use Rattle.paper.specs.Scoping.{scoping-part}
-use Rattle.paper.specs.Demands.{closedness-part, demands-part}
-use Rattle.paper.specs.Questions.{answered, scoping, closedness, demands, arithmetic-of, arithmetic, listing-of, list, buffer-of, list-buffer}
+use Rattle.paper.specs.Questions.{answered, arithmetic-of, arithmetic, listing-of, list, buffer-of, list-buffer}
 use Rattle.record.specs.declared.reader.Reading.{Reading}
 use Rattle.record.specs.Arena.{Read}
 use Rattle.record.specs.Stored.{contents}
@@ -25,21 +22,9 @@ module _ (bytes : List ℕ) (r : Reading) (p : Read bytes r) {n o : ℕ} (e : r 
   refused : read bytes ≡ outcome.refused n o
   refused = refused-is bytes (sym (p .said) ∙ e)
 
-  answered-refused : (part : Contents → List Finding) → answered part (read bytes) ≡ answer.Refused n o
+  pub answered-refused : (part : Contents → List Finding) → answered part (read bytes) ≡ answer.Refused n o
   unfolding answered
   answered-refused part = ap (answered part) refused
-
-  pub scoping-refused : (seed : Set) → scoping bytes seed ≡ answer.Refused n o
-  unfolding scoping
-  scoping-refused seed = answered-refused (λ c. scoping-part c seed)
-
-  pub closedness-refused : closedness bytes ≡ answer.Refused n o
-  unfolding closedness
-  closedness-refused = answered-refused closedness-part
-
-  pub demands-refused : demands bytes ≡ answer.Refused n o
-  unfolding demands
-  demands-refused = answered-refused demands-part
 
   pub list-refused : (before : List ℕ) → (list bytes (length before) ≡ listing.Refused n o) × (list-buffer bytes before ≡ before)
   unfolding list listing-of list-buffer buffer-of

@@ -15,14 +15,14 @@ use store.Seg.{take-pre}
 use contract.Lifetimes.{Lfts}
 use denote.Ref.{now}
 use denote.Triple.Clauses.{AtExit}
-use borrow.Fn.Kinds.{PK, RK, Out, Dens, resT, endedOf}
+use borrow.Fn.Kinds.{PK, RK, Dens, resT, endedOf}
 use Rattle.paper.specs.declared.Finding.{Finding}
 use Rattle.paper.specs.declared.Answer.the-variants.{Accepted, Unmet}
 use Rattle.paper.specs.declared.Verdict.the-variants.{Counts}
 use Rattle.paper.specs.declared.Arithmetic.{Arithmetic}
 use Rattle.paper.specs.declared.Arithmetic.the-variants.{Yes, No}
 use Rattle.paper.specs.declared.Listing.the-variants.{Listed}
-use Rattle.paper.specs.Sets.{Set, none}
+use Rattle.paper.specs.Sets.{none}
 use Rattle.paper.specs.Record.{ascii}
 use Rattle.paper.specs.TurnedAway.{Contents, accepted, verdict, read}
 use Rattle.paper.specs.TheList.{packed}

@@ -1,5 +1,5 @@
 // The public questions. Any bytes may be asked about.
-use accepted::checked;
+use accepted::answer_check;
 use listing::Check;
 use names::Names;
 use paper::Answer;
@@ -29,7 +29,7 @@ pub fn scoping(bytes: &[u8], seed: Names) -> Answer
         seed: seed,
         words: words,
     };
-    checked(bytes, &r.arena.starts, nodes, check)
+    answer_check(bytes, &r.arena.starts, nodes, check)
 }
 
 // A refusal of the reader; the first entry of 28; or accepted.
@@ -41,7 +41,7 @@ pub fn closedness(bytes: &[u8]) -> Answer
     let Verdict::Counts { names: _, nodes } = v else {
         return passed_answer(v);
     };
-    checked(bytes, &r.arena.starts, nodes, Check::Closedness)
+    answer_check(bytes, &r.arena.starts, nodes, Check::Closedness)
 }
 
 // A refusal of the reader; the first entry of 30 to 32; or accepted.
@@ -53,7 +53,7 @@ pub fn demands(bytes: &[u8]) -> Answer
     let Verdict::Counts { names: _, nodes } = v else {
         return passed_answer(v);
     };
-    checked(bytes, &r.arena.starts, nodes, Check::Demands)
+    answer_check(bytes, &r.arena.starts, nodes, Check::Demands)
 }
 
 // A refusal of the reader; or whether arithmetic is an operand of a comparison.

@@ -1,7 +1,7 @@
 -- What `check_condition` and `check_operand` find at a node: by `found-at`, what is broken there and then what is found below. Assumes nothing.
 use mathlib.Core.Path.{_≡_, refl, sym, ap, ap₂, _∙_, subst}
 use mathlib.Core.Bool.{true, false, true≢false}
-use mathlib.Core.List.{List, [], _∷_, _++_, append-nil, append-assoc}
+use mathlib.Core.List.{List, [], _∷_, _++_, append-nil}
 use Prim.Native.Nat.{ℕ}
 use types.Run.{OneOf, miss}
 use denote.Enum.Declared.{tagOf}
@@ -11,29 +11,29 @@ use Rattle.paper.specs.declared.Finding.{Finding}
 use Rattle.paper.specs.declared.Slot.{Slot}
 use Rattle.paper.specs.declared.Node.{Node}
 use Rattle.paper.specs.declared.Node.the-variants as node
-use Rattle.paper.specs.Record.{pick, node-no}
-use Rattle.paper.specs.Sets.{Set, none, _∪_, _∩_, _∖_}
+use Rattle.paper.specs.Record.{node-no}
+use Rattle.paper.specs.Sets.{Set, _∪_}
 use Rattle.paper.specs.Tree.{Condition, Term, Arguments, Items, Binders, Tree, as-condition, as-term, as-items, planted}
 use Rattle.paper.specs.Tree.{Condition as cond}
 use Rattle.paper.specs.Tree.Term.{Var, Wildcard, Value, Sigil, Array, Arith, Sum, Count, AggregateCall}
 use Rattle.paper.specs.Tree.Arguments.{no-argument, argument}
 use Rattle.paper.specs.Tree.Items.{no-item, item}
-use Rattle.paper.specs.FreeAndRestricted.{named, binder-names, restricted, holds-sigil}
-use Rattle.paper.specs.Places.{Spot, condition, operand, searched, searched-arguments, searched-items, asked-at, itself, for-names, gather, findings, found}
+use Rattle.paper.specs.FreeAndRestricted.{named, binder-names}
+use Rattle.paper.specs.Places.{Spot, condition, operand, searched, searched-arguments, searched-items, asked-at, itself, gather, findings, found}
 use Rattle.paper.specs.Scoping.{scope-below, scope-broken}
 use Rattle.paper.proofs.Walks.{found-at}
 use Rattle.paper.proofs.Exact.{extent-pos, scope-shrinks}
-use Rattle.trees.specs.Trees.{tree-of, condition-of, term-of, arguments-of, binders-of}
+use Rattle.trees.specs.Trees.{tree-of, condition-of, term-of, binders-of}
 use Rattle.trees.proofs.Arms.{Arm}
-use Rattle.trees.proofs.Sorts.{at-arguments, at-items}
+use Rattle.trees.proofs.Sorts.{at-items}
 use Rattle.trees.proofs.Shapes.{Aggregate, sum, count}
-use Rattle.trees.proofs.ByKind.{condition-cases, term-cases}
+use Rattle.trees.proofs.ByKind.{term-cases}
 use Rattle.known.specs.Plain.{plain-argument, plain-arguments, plain}
 use Rattle.known.proofs.RowLaws.{both-true}
 use Rattle.places.specs.Nested.{nested, nested-arguments, nested-items, nested-in}
-use Rattle.places.proofs.NestedLaws.{no-argument-nested, no-item-nested}
+use Rattle.places.proofs.NestedLaws.{no-item-nested}
 use Rattle.cells.specs.Aggregates.{skips, five, five-of}
-use Rattle.places.specs.Itself.{at-itself, scope-first}
+use Rattle.places.specs.Itself.{in-arguments, at-itself, scope-first}
 use Rattle.parts.specs.declared.Below.{Below}
 use Rattle.parts.specs.declared.Below.the-variants as below
 use Rattle.parts.specs.Entered.{entered-below}
@@ -42,6 +42,9 @@ use Rattle.scoping.specs.Scoped.{scoped}
 
 then-one : (a b : List Finding) → a ++ (b ++ []) ≡ a ++ b
 then-one a b = ap (λ (z : List Finding). a ++ z) (append-nil b)
+
+then-body : (a b : List Finding) → a ++ (b ++ []) ≡ (a ++ []) ++ b
+then-body a b = ap₂ {C = List Finding} _++_ (sym (append-nil a)) (append-nil b)
 
 -- what is neither arithmetic nor an array nor an aggregate with a body
 abbrev unentered-kinds : List ℕ
@@ -145,19 +148,17 @@ module _ (words scope : Set) where
 
     by-kind : (n : NodeNo) (m : Node) → let c = as-condition (planted (tree-of bytes) n m) in
         from (condition c) ≡ at-itself words c ++ goes-on (scope-first c scope) (entered-below m)
-    unfolding scope-below scope-broken gather scoped nested at-itself scope-first
+    unfolding scope-below scope-broken gather scoped nested in-arguments at-itself scope-first
     by-kind n =
         entered-cases (tree-of bytes) n (λ s c. from (condition c) ≡ at-itself words c ++ goes-on (scope-first c scope) s)
         (λ l r. at _ ∙ then-one (body l) (body r)) (λ l r. at _ ∙ then-one (body l) (body r)) (λ b. at _ ∙ append-nil _) (λ k b w. at _ ∙ append-nil _)
         (λ l r w. at _ ∙ then-one (body l) (body r))
         (λ s y b.
         at _
-        ∙ ap₂ {C = List Finding} _++_
-        (then-one (findings (for-names 22 n (named s ∩ words)))
-        (findings (for-names 23 n (pick (holds-sigil (condition-of bytes (b .0))) none (named s ∖ restricted (condition-of bytes (b .0)))))))
-        (append-nil _))
+        ∙ then-body (gather findings (scope-broken words (asked-at (condition (cond.Exists n s y (condition-of bytes (b .0)))) scope)))
+        (scoped words (condition (condition-of bytes (b .0))) (scope ∪ named s)))
         (λ o l r. at _ ∙ then-one (side l) (side r)) (λ a l. at _ ∙ append-nil _ ∙ arguments-searched _ ∙ sym (append-nil _)) (λ b l. at _ ∙ append-nil _)
-        (λ s. at _ ∙ append-nil _) (λ k y. at _) (nowhere-scoped _ _ _)
+        (λ s. at _ ∙ sym (append-nil _)) (λ k y. at _) (nowhere-scoped _ _ _)
 
   module _ {bytes starts : List ℕ} {i : ℕ} where
     in-condition : {m : Node} → Arm bytes starts i m → from (condition (condition-of bytes i)) ≡ from (condition (as-condition (planted (tree-of bytes) (node-no i)

@@ -1,5 +1,5 @@
 -- What is said of the terms of a tree (`in-terms`) is what is said of it at a place of its sort, and what fits a place is a condition or a term. Assumes nothing.
-use mathlib.Core.Path.{_≡_, refl, sym, _∙_}
+use mathlib.Core.Path.{_≡_, refl, sym}
 use mathlib.Core.Bool.{true, true≢false}
 use Rattle.paper.specs.declared.NodeNo.{NodeNo}
 use Rattle.paper.specs.Record.{condition, term, arguments, items}

@@ -18,7 +18,7 @@ use Rattle.paper.specs.declared.Tied.{Tied}
 use Rattle.paper.specs.declared.Tied.the-variants.{Left, Right, Neither}
 use Rattle.paper.specs.declared.Node.{Node}
 use Rattle.paper.specs.declared.Node.the-variants as node
-use Rattle.paper.specs.Sets.{only, _∪_, _∖_}
+use Rattle.paper.specs.Sets.{only}
 use Rattle.paper.specs.Record.{pick, node-no}
 use Rattle.paper.specs.Shape.{names-in}
 use Rattle.paper.specs.Tree.{Term, Tree, as-term, planted}

@@ -9,7 +9,7 @@ use borrow.Author.Needs.{needs}
 use Rattle.paper.specs.declared.NodeNo.{NodeNo}
 use Rattle.paper.specs.declared.Node.{Node}
 use Rattle.paper.specs.declared.Node.the-variants as node
-use Rattle.paper.specs.Sets.{Set, none, _∪_, _∖_}
+use Rattle.paper.specs.Sets.{Set, none}
 use Rattle.paper.specs.Record.{condition, binders}
 use Rattle.paper.specs.Shape.{references}
 use Rattle.paper.specs.Tree.{Tree, as-binders}

@@ -1,6 +1,6 @@
 -- `collect_facts` and `collect_list` call each other on the nodes below; the measure is the node's number. First where the ways of `collect_facts` meet, with the
 -- rows of the parts right; then the needs in the order of the code.
-use mathlib.Core.Path.{_≡_, refl, sym, ap, _∙_, subst}
+use mathlib.Core.Path.{refl, sym, ap, _∙_, subst}
 use mathlib.Core.Logic.{⊎-elim}
 use mathlib.Core.List.{List}
 use native.Mathlib.Omega.{arith}

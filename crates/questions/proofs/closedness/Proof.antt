@@ -2,25 +2,25 @@
 use mathlib.Core.Path.{sym, ap, _∙_}
 use borrow.Author.Needs.{needs}
 use Rattle.paper.specs.Questions.{closedness}
-use Rattle.accepted.specs.Ready.{Asked, part-asked}
+use Rattle.accepted.specs.Ready.{ReservedFor, part-asked}
 use Rattle.refusals.specs.Passed.{answer-passed}
-use Rattle.questions.proofs.ByVerdict.{closedness-refused, ready}
+use Rattle.questions.proofs.ByVerdict.{answered-refused, ready}
 use Rattle.questions.proofs.closedness.Statement.{statement}
 use Rattle.questions.proofs.closedness.Tie as tie
 
 returns : tie.Need-returns
-unfolding answer-passed
+unfolding answer-passed closedness
 returns c =
     let refusal = c .before .enum-told .given .1 in
-    c .passed-answer .ensures ∙ ap answer-passed refusal ∙ sym (closedness-refused _ _ (c .before .before .before .read .ensures) refusal)
+    c .passed-answer .ensures ∙ ap answer-passed refusal ∙ sym (answered-refused _ _ (c .before .before .before .read .ensures) refusal _)
 
 returns-2 : tie.Need-returns-2
 unfolding closedness part-asked
-returns-2 c = c .checked .ensures
+returns-2 c = c .answer-check .ensures
 
-checked-requires : tie.Need-checked-requires
-unfolding Asked
-checked-requires c κs =
+answer-check-requires : tie.Need-answer-check-requires
+unfolding ReservedFor
+answer-check-requires c κs =
     let v = c .before .before .before in
     (ready _ _ (v .before .before .read .ensures) (v .v .given .1), tt)
 
@@ -33,5 +33,5 @@ closedness-spec =
     (λ c. search needs)
     (λ c κs. search needs)
     returns
-    checked-requires
+    answer-check-requires
     returns-2)

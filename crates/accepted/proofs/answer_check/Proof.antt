@@ -1,9 +1,9 @@
--- `checked` answers with the first entry of the part that the check asks for, for all accepted bytes.
+-- `answer_check` answers with the first entry of the part that the check asks for, for all accepted bytes.
 use mathlib.Core.Path.{_∙_}
 use borrow.Author.Needs.{needs}
 use Rattle.accepted.proofs.AtRoot.{some-root, last-root, part-room, part-told}
-use Rattle.accepted.proofs.checked.Statement.{statement}
-use Rattle.accepted.proofs.checked.Tie as tie
+use Rattle.accepted.proofs.answer_check.Statement.{statement}
+use Rattle.accepted.proofs.answer_check.Tie as tie
 
 entries-requires : tie.Need-part-entries-requires
 entries-requires c κs =
@@ -16,7 +16,7 @@ returns c =
     let start = asked .before .before in
     c .first .ensures ∙ part-told _ _ (start .pre .0) _ (asked .root .ensures) _ (start .pre .1) (c .before .before .part-entries .ensures)
 
-pub checked-spec : {M : Type 1} → statement M
-checked-spec =
+pub answer-check-spec : {M : Type 1} → statement M
+answer-check-spec =
     tie.close
     (tie.spec (λ c κs. some-root _ _ (c .before .pre .0)) (λ c. search needs) entries-requires (λ c. search needs) (λ c κs. search needs) returns)
