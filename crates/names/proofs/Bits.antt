@@ -1,6 +1,6 @@
 -- The laws of one word's bits, each over every bit's place, and of two words that stand for a set, each over the width. Assumes nothing.
 use mathlib.Core.Path.{_≡_, refl, sym, ap, ap₂, _∙_, fun-ext, subst}
-use mathlib.Core.Bool.{Bool, true, false, cond, not, _&&_, _||_, false≢true}
+use mathlib.Core.Bool.{Bool, true, false, cond, not, _&&_, _||_, and-true, false≢true}
 use Prim.Native.Nat.{ℕ, zero, suc, _+_, _-_, _*_, _/_, _%_, _^_, _≤_, _<_}
 use native.Mathlib.Nat.{lt-of-lt-of-le, lt-of-le-of-lt, le-of-eq, zero-div, mod-lt, zero-lt-suc, not-suc-le-zero, le-of-suc-le-suc, div-eq-of-lt, mul-mod-left, pow-suc, one-mul}
 use native.Mathlib.Omega.{arith}
@@ -8,8 +8,8 @@ use native.Mathlib.Decide.{ℕ-discrete, decLt}
 use lib.Dec.{eqb, ltb, lit<}
 use lib.Bits.{bitAnd, bitOr, bitXor, and-shr, or-shr, xor-shr, and-mod, or-mod, xor-mod, and-mask}
 use lib.Pow.{high, low, shr-lt, split, pow-pos, pow-mono, pow-lt, pow-add, shl-shr, shl-exact}
-use borrow.Author.Tests.{eq-eqb, ne-eqb, lt-ltb, le-ltb}
-use Rattle.paper.proofs.SetLaws.{all-get}
+use borrow.Author.Tests.{eq-eqb, ne-eqb, lt-ltb, le-ltb, not-true}
+use Rattle.paper.proofs.SetLaws.{all-get, all-put}
 use Rattle.names.specs.Words.{bit, both, mem}
 use Rattle.paper.specs.Sets.{Set, none, only, _∪_, _∩_, _∖_, outside, all-below}
 use Rattle.names.specs.declared.Names.{Names}
@@ -53,15 +53,18 @@ bit-xor : (a b k : ℕ) → bit (bitXor a b) k ≡ apart (bit a k) (bit b k)
 unfolding apart
 bit-xor = bit-op bitXor apart xor-shr xor-mod (digits-by bitXor apart refl refl refl refl)
 
-apart-and : (a b : Bool) → apart a (a && b) ≡ (a && not b)
+abbrev less : Bool → Bool → Bool
+less a b = a && not b
+
+apart-and : (a b : Bool) → apart a (a && b) ≡ less a b
 unfolding apart
 apart-and true b = refl
 apart-and false b = refl
 
-bit-less : (a b k : ℕ) → bit (bitXor a (bitAnd a b)) k ≡ (bit a k && not (bit b k))
+bit-less : (a b k : ℕ) → bit (bitXor a (bitAnd a b)) k ≡ less (bit a k) (bit b k)
 bit-less a b k = bit-xor a (bitAnd a b) k ∙ ap (apart (bit a k)) (bit-and a b k) ∙ apart-and (bit a k) (bit b k)
 
-bit-zero : (k : ℕ) → bit 0 k ≡ false
+pub bit-zero : (k : ℕ) → bit 0 k ≡ false
 unfolding bit
 bit-zero k = ap (λ (x : ℕ). eqb (x % 2) 1) (zero-div (2 ^ k))
 
@@ -110,18 +113,9 @@ fits-less w n h e =
     go (suc zero) p g = absurd (false≢true (sym e ∙ ap (λ (x : ℕ). eqb (x % 2) 1) p))
     go (suc (suc q)) p g = absurd (omega arith)
 
-no-bit : (n w : ℕ) → w < 2 ^ n → ((k : ℕ) → k < n → bit w k ≡ false) → w ≡ 0
+pub no-bit : (n w : ℕ) → w < 2 ^ n → ((k : ℕ) → k < n → bit w k ≡ false) → w ≡ 0
 no-bit zero w h f = omega arith
 no-bit (suc n) w h f = no-bit n w (fits-less w n h (f n (omega arith))) (λ k l. f k (omega arith))
-
-none-below : (n : ℕ) → all-below n (outside none) ≡ true
-unfolding all-below outside none
-none-below zero = refl
-none-below (suc n) = none-below n
-
-not-true : (b : Bool) → not b ≡ true → b ≡ false
-not-true true e = absurd (false≢true e)
-not-true false e = refl
 
 -- a bit is read by a shift and a mask
 bit-read : (x n : ℕ) → eqb (bitAnd (x / 2 ^ n) 1) 1 ≡ bit x n
@@ -135,13 +129,16 @@ cond-op f true a b c d = refl
 cond-op f false a b c d = refl
 
 module _ (w : ℕ) where
-  in-low : (low high k : ℕ) → k < w → both w low high k ≡ bit low k
+  pub in-low : (low high k : ℕ) → k < w → both w low high k ≡ bit low k
   unfolding both
   in-low low high k h = ap (λ t. cond t (bit low k) (bit high (k - w))) (lt-ltb k w h)
 
-  in-high : (low high k : ℕ) → w ≤ k → both w low high k ≡ bit high (k - w)
+  pub in-high : (low high k : ℕ) → w ≤ k → both w low high k ≡ bit high (k - w)
   unfolding both
   in-high low high k h = ap (λ t. cond t (bit low k) (bit high (k - w))) (le-ltb k w h)
+
+  pub from-high : (low high k : ℕ) → both w low high (w + k) ≡ bit high k
+  from-high low high k = let d : (w + k) - w ≡ k = omega arith in in-high low high (w + k) (omega arith) ∙ ap (bit high) d
 
   -- an operation that goes bit by bit goes name by name
   both-op : (op : ℕ → ℕ → ℕ) (f : Bool → Bool → Bool) → ((a b k : ℕ) → bit (op a b) k ≡ f (bit a k) (bit b k))
@@ -157,31 +154,52 @@ module _ (w : ℕ) where
       same true = refl
       same false = refl
 
-  -- one name: each word says of each of its places whether it is that name's
-  both-only : (n low high : ℕ) → ((k : ℕ) → k < w → bit low k ≡ eqb k n) → ((k : ℕ) → bit high k ≡ eqb (w + k) n) → both w low high ≡ only n
-  unfolding only
-  both-only n low high f g = fun-ext (λ k. go k (decLt k w))
+  -- two words stand for a set if each of them says of each of its places whether the set has it
+  both-is : (a : Set) (low high : ℕ) → ((k : ℕ) → k < w → bit low k ≡ a k) → ((k : ℕ) → bit high k ≡ a (w + k)) → both w low high ≡ a
+  both-is a low high f g = fun-ext (λ k. go k (decLt k w))
     where
-      go : (k : ℕ) → Dec (k < w) → both w low high k ≡ eqb k n
+      go : (k : ℕ) → Dec (k < w) → both w low high k ≡ a k
       go k (yes h) = in-low low high k h ∙ f k h
       go k (no h) =
           let l : w ≤ k = omega arith in
           let e : w + (k - w) ≡ k = omega arith in
-          in-high low high k l ∙ g (k - w) ∙ ap (λ (x : ℕ). eqb x n) e
+          in-high low high k l ∙ g (k - w) ∙ ap a e
 
   -- a shift of 1 by less than the width loses nothing
   bit-shl : (n k : ℕ) → n < w → bit (1 * 2 ^ n % 2 ^ w) k ≡ eqb k n
   bit-shl n k h = ap (λ (x : ℕ). bit x k) (shl-exact 1 n w (lit< tt) (omega arith)) ∙ bit-one n k
 
   only-low : (n : ℕ) → n < w → both w (1 * 2 ^ n % 2 ^ w) 0 ≡ only n
-  only-low n h = both-only n _ 0 (λ k l. bit-shl n k h) (λ k. bit-zero k ∙ sym (ne-eqb (w + k) n (omega arith)))
+  unfolding only
+  only-low n h = both-is (only n) _ 0 (λ k l. bit-shl n k h) (λ k. bit-zero k ∙ sym (ne-eqb (w + k) n (omega arith)))
+
+  -- and by the place of a high name in its word
+  bit-shl-high : (n k : ℕ) → w ≤ n → n < w + w → bit (1 * 2 ^ (n - w) % 2 ^ w) k ≡ eqb (w + k) n
+  bit-shl-high n k h g = bit-shl (n - w) k (omega arith) ∙ moved (ℕ-discrete k (n - w))
+    where
+      moved : Dec (k ≡ n - w) → eqb k (n - w) ≡ eqb (w + k) n
+      moved (yes e) = eq-eqb k (n - w) e ∙ sym (eq-eqb (w + k) n (omega arith))
+      moved (no e) = ne-eqb k (n - w) e ∙ sym (ne-eqb (w + k) n (λ d. e (omega arith)))
 
   only-high : (n : ℕ) → w ≤ n → n < w + w → both w 0 (1 * 2 ^ (n - w) % 2 ^ w) ≡ only n
-  only-high n h g = both-only n 0 _ (λ k l. bit-zero k ∙ sym (ne-eqb k n (omega arith))) (λ k. bit-shl (n - w) k (omega arith) ∙ moved k (ℕ-discrete k (n - w)))
-    where
-      moved : (k : ℕ) → Dec (k ≡ n - w) → eqb k (n - w) ≡ eqb (w + k) n
-      moved k (yes e) = eq-eqb k (n - w) e ∙ sym (eq-eqb (w + k) n (omega arith))
-      moved k (no e) = ne-eqb k (n - w) e ∙ sym (ne-eqb (w + k) n (λ d. e (omega arith)))
+  unfolding only
+  only-high n h g = both-is (only n) 0 _ (λ k l. bit-zero k ∙ sym (ne-eqb k n (omega arith))) (λ k. bit-shl-high n k h g)
+
+  -- one name less: its bit goes out of its word, and the other word stays
+  module _ (low high n : ℕ) where
+    out-low : n < w → both w (bitXor low (bitAnd low (1 * 2 ^ n % 2 ^ w))) high ≡ both w low high ∖ only n
+    unfolding _∖_ only
+    out-low h =
+        both-is (both w low high ∖ only n) _ high
+        (λ k l. bit-less low _ k ∙ ap₂ less (sym (in-low low high k l)) (bit-shl n k h))
+        (λ k. sym (ap₂ less (from-high low high k) (ne-eqb (w + k) n (omega arith)) ∙ and-true (bit high k)))
+
+    out-high : w ≤ n → n < w + w → both w low (bitXor high (bitAnd high (1 * 2 ^ (n - w) % 2 ^ w))) ≡ both w low high ∖ only n
+    unfolding _∖_ only
+    out-high h g =
+        both-is (both w low high ∖ only n) low _
+        (λ k l. sym (ap₂ less (in-low low high k l) (ne-eqb k n (omega arith)) ∙ and-true (bit low k)))
+        (λ k. bit-less high _ k ∙ ap₂ less (sym (from-high low high k)) (bit-shl-high n k h g))
 
   module _ (low high : ℕ) (h : high < 2 ^ w) where
     both-past : (k : ℕ) → w + w ≤ k → both w low high k ≡ false
@@ -192,14 +210,10 @@ module _ (w : ℕ) where
       low-zero f = no-bit w low l (λ k g. sym (in-low low high k g) ∙ f k (omega arith))
 
       high-zero : ((k : ℕ) → k < w + w → both w low high k ≡ false) → high ≡ 0
-      high-zero f =
-          no-bit w high h
-          (λ k g.
-          let d : (w + k) - w ≡ k = omega arith in
-          sym (in-high low high (w + k) (omega arith) ∙ ap (bit high) d) ∙ f (w + k) (omega arith))
+      high-zero f = no-bit w high h (λ k g. sym (from-high low high k) ∙ f (w + k) (omega arith))
 
       both-empty : (eqb low 0 && eqb high 0) ≡ all-below (w + w) (outside (both w low high))
-      unfolding outside
+      unfolding outside none
       both-empty = go (ℕ-discrete low 0) (ℕ-discrete high 0) (all-below (w + w) (outside (both w low high))) refl
         where
           absent : all-below (w + w) (outside (both w low high)) ≡ true → (k : ℕ) → k < w + w → both w low high k ≡ false
@@ -209,7 +223,7 @@ module _ (w : ℕ) where
               → (eqb low 0 && eqb high 0) ≡ all-below (w + w) (outside (both w low high))
           go (yes p) (yes q) b e =
               ap₂ _&&_ (eq-eqb low 0 p) (eq-eqb high 0 q)
-              ∙ sym (ap (λ (a : Set). all-below (w + w) (outside a)) (ap₂ (both w) p q ∙ both-none) ∙ none-below (w + w))
+              ∙ sym (ap (λ (a : Set). all-below (w + w) (outside a)) (ap₂ (both w) p q ∙ both-none) ∙ all-put (w + w) (outside none) (λ k g. refl))
           go (no p) d true e = absurd (p (low-zero (absent e)))
           go (no p) d false e = ap (λ (x : Bool). x && eqb high 0) (ne-eqb low 0 p) ∙ sym e
           go (yes p) (no q) true e = absurd (q (high-zero (absent e)))
@@ -231,7 +245,7 @@ mem-common a b = fun-ext (both-op 64 bitAnd _&&_ bit-and (a .lo) (b .lo) (a .hi)
 
 pub mem-minus : (a b : Names) → mem (record { lo = bitXor (a .lo) (bitAnd (a .lo) (b .lo)); hi = bitXor (a .hi) (bitAnd (a .hi) (b .hi)) }) ≡ mem a ∖ mem b
 unfolding mem _∖_
-mem-minus a b = fun-ext (both-op 64 (λ x y. bitXor x (bitAnd x y)) (λ x y. x && not y) bit-less (a .lo) (b .lo) (a .hi) (b .hi))
+mem-minus a b = fun-ext (both-op 64 (λ x y. bitXor x (bitAnd x y)) less bit-less (a .lo) (b .lo) (a .hi) (b .hi))
 
 pub mem-low : (n : ℕ) → n < 64 → mem (record { lo = 1 * 2 ^ n % 2 ^ 64; hi = 0 }) ≡ only n
 unfolding mem
@@ -240,6 +254,15 @@ mem-low = only-low 64
 pub mem-high : (n : ℕ) → 64 ≤ n → n < 128 → mem (record { lo = 0; hi = 1 * 2 ^ (n - 64) % 2 ^ 64 }) ≡ only n
 unfolding mem
 mem-high = only-high 64
+
+pub mem-out-low : (s : Names) (n : ℕ) → n < 64 → mem (record { lo = bitXor (s .lo) (bitAnd (s .lo) (1 * 2 ^ n % 2 ^ 64)); hi = s .hi }) ≡ mem s ∖ only n
+unfolding mem
+mem-out-low s = out-low 64 (s .lo) (s .hi)
+
+pub mem-out-high : (s : Names) (n : ℕ) → 64 ≤ n → n < 128
+    → mem (record { lo = s .lo; hi = bitXor (s .hi) (bitAnd (s .hi) (1 * 2 ^ (n - 64) % 2 ^ 64)) }) ≡ mem s ∖ only n
+unfolding mem
+mem-out-high s = out-high 64 (s .lo) (s .hi)
 
 pub has-low : (s : Names) (n : ℕ) → n < 64 → eqb (bitAnd (s .lo / 2 ^ n) 1) 1 ≡ mem s n
 unfolding mem

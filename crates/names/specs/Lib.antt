@@ -1,2 +1,3 @@
--- How two words stand for a set of names.
+-- How two words stand for a set of names, and the least number of a set.
 pub mod Words
+pub mod Least

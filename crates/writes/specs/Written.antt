@@ -24,15 +24,9 @@ pub record Wrote (fs : List Finding) (at next : ℕ) (before after : List ℕ) :
   pub total : next ≡ at + length fs
   pub put : after ≡ sets before at (map pack fs)
 
--- a rule's entries at a node for some names, and for one name if it is in a set
+-- a rule's entry at a node for a name
 abbrev pub made : ℕ → NodeNo → ℕ → Finding
 made rule n x = record { rule = rule; node = n; name = Name (name-no x) }
-
-abbrev pub entries-for : ℕ → NodeNo → List ℕ → List Finding
-entries-for rule n xs = map (made rule n) xs
-
-abbrev pub entry-for : ℕ → NodeNo → Set → ℕ → List Finding
-entry-for rule n s x = entries-for rule n (cond (s x) (x ∷ []) [])
 
 -- what a check answers where it has so many entries, and this is the first
 unfoldable pub answer-of : ℕ → ℕ → Answer

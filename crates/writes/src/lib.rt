@@ -11,7 +11,7 @@ ghost use Prim.Native.Nat.{_<_};
 ghost use Rattle.paper.specs.TheList.{subject-of, name-or-255, pack as packs, unpack as unpacks};
 ghost use Rattle.paper.specs.Places.{for-names, findings};
 ghost use Rattle.names.specs.Words.{mem};
-ghost use Rattle.writes.specs.Written.{Room, Wrote, entry-for, answer-of};
+ghost use Rattle.writes.specs.Written.{Room, Wrote, answer-of};
 
 // A name as document 01's number: 255 is none.
 pub fn name_or_255(s: Subject) -> u8
@@ -64,36 +64,22 @@ pub fn put(out: &mut [u32], at: usize, f: Finding) -> usize
     at + 1
 }
 
-// The entry of a rule at a node for one name, if the name is in the set.
-fn emit_name(out: &mut [u32], at: usize, rule: u8, n: NodeNo, s: Names, x: u8) -> usize
-    requires { ⌜ Room (entry-for rule n (mem s) x) at ⌝ }
-    ensures { λ r. ⌜ Wrote (entry-for rule n (mem s) x) at r (now (out .entry)) (now (out .exit)) ⌝ }
-{
-    let name = NameNo(x);
-    if names::member(s, name) {
-        let f = Finding {
-            rule: rule,
-            node: n,
-            name: Subject::Name(name),
-        };
-        return put(out, at, f);
-    }
-    at
-}
-
-// The entries of a rule at a node for each name of a set, ascending.
+// The entries of a rule at a node for each name of a set, ascending: a step for each name, the least of those that are left.
 pub fn emit(out: &mut [u32], at: usize, rule: u8, n: NodeNo, s: Names) -> usize
     requires { ⌜ Room (findings (for-names rule n (mem s))) at ⌝ }
     ensures { λ r. ⌜ Wrote (findings (for-names rule n (mem s))) at r (now (out .entry)) (now (out .exit)) ⌝ }
 {
-    if names::is_empty(s) {
-        return at;
-    }
     let mut p = at;
-    let mut x: u8 = 0;
-    while x < 128 {
-        p = emit_name(out, p, rule, n, s, x);
-        x = x + 1;
+    let mut left = s;
+    while !names::is_empty(left) {
+        let x = names::least(left);
+        let f = Finding {
+            rule: rule,
+            node: n,
+            name: Subject::Name(x),
+        };
+        p = put(out, p, f);
+        left = names::without(left, x);
     }
     p
 }
