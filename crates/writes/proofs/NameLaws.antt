@@ -4,12 +4,18 @@ use mathlib.Core.Bool.{true, false, not, Bool·not-not}
 use mathlib.Core.List.{[], _∷_, map}
 use Prim.Native.Nat.{ℕ}
 use Rattle.paper.specs.declared.NodeNo.{NodeNo}
+use Rattle.paper.specs.declared.Subject.the-variants.{Name}
+use Rattle.paper.specs.declared.Finding.{Finding}
+use Rattle.paper.specs.Record.{name-no}
 use Rattle.paper.specs.Sets.{Set, only, _∖_, outside, all-below}
 use Rattle.paper.specs.Places.{for-names, findings}
 use Rattle.paper.proofs.SetLaws.{all-get, members-none}
 use Rattle.names.specs.Least.{least}
 use Rattle.names.proofs.LeastLaws.{members-least, some-least}
-use Rattle.writes.specs.Written.{made}
+
+-- a rule's entry at a node for a name
+abbrev pub made : ℕ → NodeNo → ℕ → Finding
+made rule n x = record { rule = rule; node = n; name = Name (name-no x) }
 
 pub for-same : (rule : ℕ) (n : NodeNo) {s t : Set} → s ≡ t → findings (for-names rule n t) ≡ findings (for-names rule n s)
 for-same rule n e = ap (λ (z : Set). findings (for-names rule n z)) (sym e)

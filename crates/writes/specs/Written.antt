@@ -2,18 +2,14 @@
 -- counts, a buffer of one entry has the first, and one with room has them all. Assumes nothing: these are definitions.
 use Prim.Native.Nat.{ℕ, _+_, _<_, _^_}
 use mathlib.Core.Path.{_≡_}
-use mathlib.Core.Bool.{cond}
-use mathlib.Core.List.{List, [], _∷_, map}
+use mathlib.Core.List.{List, map}
 use lib.Dec.{eqb}
 use lib.ListN.{length}
 use lib.Seq.{sets}
-use Rattle.paper.specs.declared.NodeNo.{NodeNo}
-use Rattle.paper.specs.declared.Subject.the-variants.{Name}
 use Rattle.paper.specs.declared.Finding.{Finding}
 use Rattle.paper.specs.declared.Answer.{Answer}
 use Rattle.paper.specs.declared.Answer.the-variants.{Accepted, Unmet}
-use Rattle.paper.specs.Sets.{Set}
-use Rattle.paper.specs.Record.{pick, name-no}
+use Rattle.paper.specs.Record.{pick}
 use Rattle.paper.specs.TheList.{pack, unpack}
 
 -- the count of so many entries more does not overflow
@@ -23,10 +19,6 @@ pub record Room (fs : List Finding) (at : ℕ) : Type 0 where
 pub record Wrote (fs : List Finding) (at next : ℕ) (before after : List ℕ) : Type 0 where
   pub total : next ≡ at + length fs
   pub put : after ≡ sets before at (map pack fs)
-
--- a rule's entry at a node for a name
-abbrev pub made : ℕ → NodeNo → ℕ → Finding
-made rule n x = record { rule = rule; node = n; name = Name (name-no x) }
 
 -- what a check answers where it has so many entries, and this is the first
 unfoldable pub answer-of : ℕ → ℕ → Answer

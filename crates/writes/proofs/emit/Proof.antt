@@ -15,9 +15,9 @@ use Rattle.paper.specs.Places.{for-names, findings}
 use Rattle.names.specs.declared.Names.{Names}
 use Rattle.names.specs.Words.{mem}
 use Rattle.names.proofs.LeastLaws.{some-least}
-use Rattle.writes.specs.Written.{Wrote, made}
+use Rattle.writes.specs.Written.{Wrote}
 use Rattle.writes.proofs.WriteLaws.{wrote-none, wrote-then, wrote-is, wrote-length, room-is, room-first, room-rest}
-use Rattle.writes.proofs.NameLaws.{for-same, no-names, next-name}
+use Rattle.writes.proofs.NameLaws.{made, no-names, next-name}
 use Rattle.writes.proofs.emit.Statement.{statement}
 use Rattle.writes.proofs.emit.Tie as tie
 
