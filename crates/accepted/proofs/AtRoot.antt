@@ -7,6 +7,7 @@ use lib.ListN.{length, length-map, getD}
 use borrow.Author.Tests.{le-leb, lt-leb}
 use native.Mathlib.Omega.{arith}
 use Rattle.paper.specs.declared.NodeNo.{NodeNo}
+use Rattle.paper.specs.declared.Node.{Node}
 use Rattle.paper.specs.declared.Finding.{Finding}
 use Rattle.names.specs.declared.Names.{Names}
 use Rattle.paper.specs.declared.Arithmetic.the-variants as arith
@@ -14,7 +15,7 @@ use Rattle.paper.specs.declared.Listing.the-variants as listing
 use Rattle.paper.specs.Record.{pick, node-no}
 use Rattle.paper.specs.TurnedAway.{read}
 use Rattle.paper.specs.Sets.{Set, none}
-use Rattle.paper.specs.Tree.{root-no, root}
+use Rattle.paper.specs.Tree.{Condition, as-condition, tree-at, root-no, root}
 use Rattle.paper.specs.FreeAndRestricted.{free}
 use Rattle.paper.specs.Places.{condition, for-names, findings}
 use Rattle.paper.specs.Scoping.{scoping-part}
@@ -25,8 +26,10 @@ use Rattle.paper.proofs.Walks.{All}
 use Rattle.paper.proofs.Lengths.{scoping-length, closedness-length, demands-length, list-length}
 use Rattle.paper.proofs.Fitting.{Fits, scoping-fits, closedness-fits, demands-fits}
 use Rattle.names.specs.Words.{mem}
-use Rattle.record.specs.Stored.{contents, Has}
+use Rattle.memory.specs.Columns.{Copies}
+use Rattle.record.specs.Stored.{contents, held, Has}
 use Rattle.record.proofs.Verdicts.{Told, counts-are}
+use Rattle.record.proofs.StoredLaws.{holds, formed}
 use Rattle.trees.specs.Trees.{condition-of}
 use Rattle.writes.specs.Written.{Room, Wrote, answer-of}
 use Rattle.writes.proofs.WriteLaws.{wrote-is, room-is}
@@ -53,36 +56,44 @@ module _ (bytes starts : List ℕ) {k : ℕ} (p : Ready bytes starts k) where
   unfolding root-no
   last-node i d = ap (λ (m : ℕ). node-no (m - 1)) (told .nodes-are) ∙ sym d
 
-  module _ (i : NodeNo) (d : i ≡ node-no (k - 1)) where
-    pub has-root : Has bytes starts (i .0)
-    has-root =
-        let long = told .nodes-are in
-        let some = told .formed .some-node in
-        let here : i .0 ≡ k - 1 = ap (λ (m : NodeNo). m .0) d in
-        (p .stored, omega arith)
+  module _ {columns : List ℕ} (copies : Copies bytes starts k columns) (i : NodeNo) (d : i ≡ node-no (k - 1)) where
+    held-long : length (held columns) ≡ k
+    held-long = ap length (holds told (p .stored) copies) ∙ told .nodes-are
 
-    pub last-root : Last bytes starts (i .0)
+    pub has-root : Has columns (i .0)
+    has-root =
+        let long = held-long in
+        let some = some-root .0 in
+        let here : i .0 ≡ k - 1 = ap (λ (m : NodeNo). m .0) d in
+        (formed told (p .stored) copies, omega arith)
+
+    pub last-root : Last columns (i .0)
     last-root =
-        let long = told .nodes-are in
-        let some = told .formed .some-node in
+        let long = held-long in
+        let some = some-root .0 in
         let here : i .0 ≡ k - 1 = ap (λ (m : NodeNo). m .0) d in
         record { has = has-root; all = omega arith }
 
+    -- the condition that a walk begins at is the root
+    rooted : condition-of columns (i .0) ≡ root (contents bytes)
+    unfolding root
+    rooted = ap₂ (λ (ms : List Node) (m : NodeNo). as-condition (tree-at ms (m .0))) (holds told (p .stored) copies) (sym (last-node i d))
+
     -- what a walk from the root writes is the part
-    scoped-part : (words : Names) → Reserved bytes words → (seed : Set) → scoped (mem words) (condition (condition-of bytes (i .0))) seed ≡ scoping-part (contents bytes) seed
+    scoped-part : (words : Names) → Reserved bytes words → (seed : Set) → scoped (mem words) (condition (condition-of columns (i .0))) seed ≡ scoping-part (contents bytes) seed
     unfolding scoping-part scoped root
     scoped-part words reserves seed =
-        ap₂ (λ (w : Set) (m : NodeNo). scoped w (condition (condition-of bytes (m .0))) seed) reserves (sym (last-node i d))
+        ap₂ (λ (w : Set) (c : Condition). scoped w (condition c) seed) reserves rooted
 
-    untied-part : findings (for-names 28 i (free (condition-of bytes (i .0)))) ≡ closedness-part (contents bytes)
+    untied-part : findings (for-names 28 i (free (condition-of columns (i .0)))) ≡ closedness-part (contents bytes)
     unfolding closedness-part closedness-broken root
-    untied-part = ap (λ (m : NodeNo). findings (for-names 28 m (free (condition-of bytes (m .0))))) (sym (last-node i d))
+    untied-part = ap₂ (λ (m : NodeNo) (c : Condition). findings (for-names 28 m (free c))) (sym (last-node i d)) rooted
 
-    demanded-part : demands-of (condition-of bytes (i .0)) ≡ demands-part (contents bytes)
+    demanded-part : demands-of (condition-of columns (i .0)) ≡ demands-part (contents bytes)
     unfolding demands-of demanded demands-part root
-    demanded-part = ap (λ (m : NodeNo). demands-of (condition-of bytes (m .0))) (sym (last-node i d))
+    demanded-part = ap demands-of rooted
 
-    part-is : (check : Check) → ReservedFor bytes check → part-of check i (condition-of bytes (i .0)) ≡ part-asked check (contents bytes)
+    part-is : (check : Check) → ReservedFor bytes check → part-of check i (condition-of columns (i .0)) ≡ part-asked check (contents bytes)
     unfolding part-of part-asked ReservedFor
     part-is (Scoping seed words) reserves = scoped-part words reserves (mem seed)
     part-is Closedness _ = untied-part
@@ -101,25 +112,25 @@ module _ (bytes starts : List ℕ) {k : ℕ} (p : Ready bytes starts k) where
     part-fits Demands = demands-fits (contents bytes) (told .formed)
 
     module _ (check : Check) (reserves : ReservedFor bytes check) where
-      pub part-room : Room (part-of check i (condition-of bytes (i .0))) 0
+      pub part-room : Room (part-of check i (condition-of columns (i .0))) 0
       part-room = room-is (sym (part-is check reserves)) (let l = part-length check in record { left = omega arith })
 
-      pub part-told : {x count : ℕ} {after : List ℕ} → Wrote (part-of check i (condition-of bytes (i .0))) 0 count (x ∷ []) after
+      pub part-told : {x count : ℕ} {after : List ℕ} → Wrote (part-of check i (condition-of columns (i .0))) 0 count (x ∷ []) after
           → answer-of count (getD after 0 0) ≡ answered (part-asked check) (read bytes)
       unfolding answered
       part-told w =
           first-told (part-asked check (contents bytes)) (part-fits check) (wrote-is (sym (part-is check reserves)) w)
           ∙ sym (ap (answered (part-asked check)) (told .outcome))
 
-    pub arithmetic-told : arithmetic bytes ≡ pick (has-arith (condition-of bytes (i .0))) arith.Yes arith.No
+    pub arithmetic-told : arithmetic bytes ≡ pick (has-arith (condition-of columns (i .0))) arith.Yes arith.No
     unfolding arithmetic arithmetic-of root
     arithmetic-told =
-        ap arithmetic-of (told .outcome) ∙ ap (λ (m : NodeNo). pick (has-arith (condition-of bytes (m .0))) arith.Yes arith.No) (last-node i d)
+        ap arithmetic-of (told .outcome) ∙ ap (λ (c : Condition). pick (has-arith c) arith.Yes arith.No) (sym rooted)
 
     module _ (words : Names) (reserves : Reserved bytes words) where
       -- the three parts
       abbrev written : List Finding
-      written = listed (mem words) i (condition-of bytes (i .0))
+      written = listed (mem words) i (condition-of columns (i .0))
 
       list-parts : written ≡ the-list (contents bytes)
       unfolding listed the-list

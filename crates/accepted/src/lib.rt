@@ -1,5 +1,6 @@
-// What each question answers to bytes that the reader accepted.
+// What each question answers to bytes that the reader accepted: from here on the nodes are columns.
 use checks::arith::condition_has_arith;
+use columns::fill;
 use entries::list_entries;
 use entries::part_entries;
 use listing::Check;
@@ -30,8 +31,10 @@ pub fn answer_check(bytes: &[u8], starts: &[u16; 512], nodes: usize, check: Chec
     requires { ⌜ Ready (now bytes) (now starts) nodes × ReservedFor (now bytes) check ⌝ }
     ensures { λ r. ⌜ r ≡ answered (part-asked check) (read (now (bytes .entry))) ⌝ }
 {
+    let mut columns = [0u16; 2049];
+    fill(bytes, starts, nodes, &mut columns);
     let mut one = [0u32; 1];
-    let count = part_entries(bytes, starts, root(nodes), check, &mut one);
+    let count = part_entries(&columns, root(nodes), check, &mut one);
     first(count, one[0])
 }
 
@@ -40,7 +43,9 @@ pub fn arithmetic(bytes: &[u8], starts: &[u16; 512], nodes: usize) -> Arithmetic
     requires { ⌜ Ready (now bytes) (now starts) nodes ⌝ }
     ensures { λ r. ⌜ r ≡ arithmetic-answer (now (bytes .entry)) ⌝ }
 {
-    if condition_has_arith(bytes, starts, root(nodes)) {
+    let mut columns = [0u16; 2049];
+    fill(bytes, starts, nodes, &mut columns);
+    if condition_has_arith(&columns, root(nodes)) {
         return Arithmetic::Yes;
     }
     Arithmetic::No
@@ -57,8 +62,10 @@ pub fn list(
     requires { ⌜ Ready (now bytes) (now starts) nodes × Reserved (now bytes) words ⌝ }
     ensures { λ r. ⌜ (r ≡ list-answer (now (bytes .entry)) (length (now (out .entry)))) × (now (out .exit) ≡ list-buffer (now (bytes .entry)) (now (out .entry))) ⌝ }
 {
+    let mut columns = [0u16; 2049];
+    fill(bytes, starts, nodes, &mut columns);
     let room = out.len();
-    let count = list_entries(bytes, starts, root(nodes), words, out);
+    let count = list_entries(&columns, root(nodes), words, out);
     if room < count {
         return Listing::NoRoom(count);
     }

@@ -15,7 +15,7 @@ ghost use Prim.Native.Nat.{_<_};
 ghost use lib.ListN.{length};
 ghost use Rattle.paper.specs.Places.{gather, findings};
 ghost use Rattle.names.specs.Words.{mem};
-ghost use Rattle.record.specs.Stored.{contents, Has};
+ghost use Rattle.record.specs.Stored.{held, Has};
 ghost use Rattle.known.specs.Rows.{Noted};
 ghost use Rattle.trees.specs.Trees.{tree-of, condition-of, term-of, binders-of, is-condition};
 ghost use Rattle.writes.specs.Written.{Room, Wrote};
@@ -23,8 +23,7 @@ ghost use Rattle.cells.specs.Aggregates.{five, five-of};
 
 // 22 at the cells, 24 and 25 at the aggregate, 26 and 27 at the cells.
 fn check_aggregation(
-    bytes: &[u8],
-    starts: &[u16; 512],
+    columns: &[u16; 2049],
     rows: &[[u64; 5]],
     n: NodeNo,
     summed: Names,
@@ -35,29 +34,28 @@ fn check_aggregation(
     out: &mut [u32],
     at: usize,
 ) -> usize
-    requires { ⌜ Has (now bytes) (now starts) (binders .0) × (body .0 < length (contents (now bytes) .nodes)) × Noted (now bytes) (now rows) × (is-condition (tree-of (now bytes) (body .0)) ≡ true) ⌝ }
-    requires { ⌜ Room (gather findings (five (mem words) n (mem summed) (binders-of (now bytes) (binders .0)) (condition-of (now bytes) (body .0)) (mem scope))) at ⌝ }
-    ensures { λ r. ⌜ Wrote (gather findings (five (mem words) n (mem summed) (binders-of (now (bytes .entry)) (binders .0)) (condition-of (now (bytes .entry)) (body .0)) (mem scope))) at r (now (out .entry)) (now (out .exit)) ⌝ }
+    requires { ⌜ Has (now columns) (binders .0) × (body .0 < length (held (now columns))) × Noted (now columns) (now rows) × (is-condition (tree-of (now columns) (body .0)) ≡ true) ⌝ }
+    requires { ⌜ Room (gather findings (five (mem words) n (mem summed) (binders-of (now columns) (binders .0)) (condition-of (now columns) (body .0)) (mem scope))) at ⌝ }
+    ensures { λ r. ⌜ Wrote (gather findings (five (mem words) n (mem summed) (binders-of (now (columns .entry)) (binders .0)) (condition-of (now (columns .entry)) (body .0)) (mem scope))) at r (now (out .entry)) (now (out .exit)) ⌝ }
 {
-    let own = binder_names(bytes, starts, binders);
-    let inner = collect_free(bytes, rows, body);
-    let tied = collect_range_restricted(bytes, rows, body);
+    let own = binder_names(columns, binders);
+    let inner = collect_free(columns, rows, body);
+    let tied = collect_range_restricted(columns, rows, body);
     let known = names::union(scope, own);
     let unsummed = names::minus(summed, own);
     let unknown = names::minus(inner, known);
     let unused = names::minus(own, inner);
     let untied = names::minus(own, tied);
-    let a = emit_cells(bytes, starts, binders, 22, words, out, at);
+    let a = emit_cells(columns, binders, 22, words, out, at);
     let b = emit(out, a, 24, n, unsummed);
     let c = emit(out, b, 25, n, unknown);
-    let d = emit_cells(bytes, starts, binders, 26, unused, out, c);
-    emit_cells(bytes, starts, binders, 27, untied, out, d)
+    let d = emit_cells(columns, binders, 26, unused, out, c);
+    emit_cells(columns, binders, 27, untied, out, d)
 }
 
 // The same of the aggregate that a node is.
 pub fn check_agg_expr(
-    bytes: &[u8],
-    starts: &[u16; 512],
+    columns: &[u16; 2049],
     rows: &[[u64; 5]],
     i: NodeNo,
     scope: Names,
@@ -65,17 +63,16 @@ pub fn check_agg_expr(
     out: &mut [u32],
     at: usize,
 ) -> usize
-    requires { ⌜ Has (now bytes) (now starts) (i .0) × Noted (now bytes) (now rows) ⌝ }
-    requires { ⌜ Room (gather findings (five-of (mem words) (term-of (now bytes) (i .0)) (mem scope))) at ⌝ }
-    ensures { λ r. ⌜ Wrote (gather findings (five-of (mem words) (term-of (now (bytes .entry)) (i .0)) (mem scope))) at r (now (out .entry)) (now (out .exit)) ⌝ }
+    requires { ⌜ Has (now columns) (i .0) × Noted (now columns) (now rows) ⌝ }
+    requires { ⌜ Room (gather findings (five-of (mem words) (term-of (now columns) (i .0)) (mem scope))) at ⌝ }
+    ensures { λ r. ⌜ Wrote (gather findings (five-of (mem words) (term-of (now (columns .entry)) (i .0)) (mem scope))) at r (now (out .entry)) (now (out .exit)) ⌝ }
 {
-    let node = node_at(bytes, starts, i);
+    let node = node_at(columns, i);
     match node {
         Node::Sum(slot, binders, body) => {
             let summed = slot_name(slot);
             check_aggregation(
-                bytes,
-                starts,
+                columns,
                 rows,
                 i,
                 summed,
@@ -90,8 +87,7 @@ pub fn check_agg_expr(
         Node::Count(binders, body) => {
             let summed = names::empty();
             check_aggregation(
-                bytes,
-                starts,
+                columns,
                 rows,
                 i,
                 summed,

@@ -37,17 +37,17 @@ pub cells-append : (rule : ℕ) (s : Set) (a b : List Cell) → findings (at-cel
 unfolding findings
 cells-append rule s a b = gather-append (at-cell rule s) a b
 
-module _ {bytes starts : List ℕ} {i : ℕ} where
-  pub in-cells : {A : Type 0} (f : Binders → A) {m : Node} → Arm bytes starts i m → f (binders-of bytes i) ≡ f (as-binders (planted (tree-of bytes) (node-no i) m))
+module _ {columns : List ℕ} {i : ℕ} where
+  pub in-cells : {A : Type 0} (f : Binders → A) {m : Node} → Arm columns i m → f (binders-of columns i) ≡ f (as-binders (planted (tree-of columns) (node-no i) m))
   in-cells f a = ap (λ (t : Tree). f (as-binders t)) (a .tree)
 
-  pub sigil-cell : {s : Slot} {y : ℕ} {l : NodeNo} → Arm bytes starts i (node.BinderCell s y l)
-      → binder-sigil (binders-of bytes i) ≡ (is-sigil s || binder-sigil (binders-of bytes (l .0)))
+  pub sigil-cell : {s : Slot} {y : ℕ} {l : NodeNo} → Arm columns i (node.BinderCell s y l)
+      → binder-sigil (binders-of columns i) ≡ (is-sigil s || binder-sigil (binders-of columns (l .0)))
   unfolding planted as-binders binder-sigil
   sigil-cell a = in-cells binder-sigil a
 
-  pub next-cell : {s : Slot} {y : ℕ} {l : NodeNo} → Arm bytes starts i (node.BinderCell s y l)
-      → cells (binders-of bytes i) ≡ cell-of (node-no i) s ++ cells (binders-of bytes (l .0))
+  pub next-cell : {s : Slot} {y : ℕ} {l : NodeNo} → Arm columns i (node.BinderCell s y l)
+      → cells (binders-of columns i) ≡ cell-of (node-no i) s ++ cells (binders-of columns (l .0))
   unfolding planted as-binders cells
   next-cell a = in-cells cells a
 
@@ -113,32 +113,32 @@ own-outside rule own a (binder n s y l) h =
 
 -- ---- whether it is skipped
 
-module _ {bytes starts : List ℕ} {i : ℕ} where
-  pub in-term : {A : Type 0} (f : Rattle.paper.specs.Tree.Term → A) {m : Node} → Arm bytes starts i m → f (term-of bytes i) ≡ f (as-term (planted (tree-of bytes)
+module _ {columns : List ℕ} {i : ℕ} where
+  pub in-term : {A : Type 0} (f : Rattle.paper.specs.Tree.Term → A) {m : Node} → Arm columns i m → f (term-of columns i) ≡ f (as-term (planted (tree-of columns)
       (node-no i) m))
   in-term f a = ap (λ (t : Tree). f (as-term t)) (a .tree)
 
-  pub skips-sum : {s : Slot} {l b : NodeNo} → Arm bytes starts i (node.Sum s l b) → skips (term-of bytes i) ≡ (is-sigil s || binder-sigil (binders-of bytes (l .0)))
+  pub skips-sum : {s : Slot} {l b : NodeNo} → Arm columns i (node.Sum s l b) → skips (term-of columns i) ≡ (is-sigil s || binder-sigil (binders-of columns (l .0)))
   unfolding planted as-term skips
   skips-sum a = in-term skips a
 
-  pub skips-count : {l b : NodeNo} → Arm bytes starts i (node.Count l b) → skips (term-of bytes i) ≡ binder-sigil (binders-of bytes (l .0))
+  pub skips-count : {l b : NodeNo} → Arm columns i (node.Count l b) → skips (term-of columns i) ≡ binder-sigil (binders-of columns (l .0))
   unfolding planted as-term skips
   skips-count a = in-term skips a
 
-  pub five-sum : (words scope : Set) {summed : Set} {s : Slot} {l b : NodeNo} → summed ≡ named s → Arm bytes starts i (node.Sum s l b)
-      → five-of words (term-of bytes i) scope ≡ five words (node-no i) summed (binders-of bytes (l .0)) (condition-of bytes (b .0)) scope
+  pub five-sum : (words scope : Set) {summed : Set} {s : Slot} {l b : NodeNo} → summed ≡ named s → Arm columns i (node.Sum s l b)
+      → five-of words (term-of columns i) scope ≡ five words (node-no i) summed (binders-of columns (l .0)) (condition-of columns (b .0)) scope
   unfolding planted as-term five-of
   five-sum words scope {l = l} {b = b} e a =
       in-term (λ t. five-of words t scope) a
-      ∙ ap (λ (z : Set). five words (node-no i) z (binders-of bytes (l .0)) (condition-of bytes (b .0)) scope) (sym e)
+      ∙ ap (λ (z : Set). five words (node-no i) z (binders-of columns (l .0)) (condition-of columns (b .0)) scope) (sym e)
 
-  pub five-count : (words scope : Set) {summed : Set} {l b : NodeNo} → summed ≡ none → Arm bytes starts i (node.Count l b)
-      → five-of words (term-of bytes i) scope ≡ five words (node-no i) summed (binders-of bytes (l .0)) (condition-of bytes (b .0)) scope
+  pub five-count : (words scope : Set) {summed : Set} {l b : NodeNo} → summed ≡ none → Arm columns i (node.Count l b)
+      → five-of words (term-of columns i) scope ≡ five words (node-no i) summed (binders-of columns (l .0)) (condition-of columns (b .0)) scope
   unfolding planted as-term five-of
   five-count words scope {l = l} {b = b} e a =
       in-term (λ t. five-of words t scope) a
-      ∙ ap (λ (z : Set). five words (node-no i) z (binders-of bytes (l .0)) (condition-of bytes (b .0)) scope) (sym e)
+      ∙ ap (λ (z : Set). five words (node-no i) z (binders-of columns (l .0)) (condition-of columns (b .0)) scope) (sym e)
 
 -- no aggregate with a body
 abbrev no-body-kinds : List ℕ
@@ -158,8 +158,8 @@ no-five words scope t n =
     (λ x h. refl) (λ h. refl) (λ y h. refl) (λ y h. refl) (λ y h. refl) (λ k h. refl) (λ k h. refl) (λ l h. refl) (λ o l r h. refl)
     (λ s l b h. absurd (miss no-body-kinds 22 tt h)) (λ l b h. absurd (miss no-body-kinds 23 tt h)) (λ y h. refl) (λ m e h. refl)
 
-pub five-none : (words scope : Set) {bytes starts : List ℕ} {i : ℕ} {m : Node} → Arm bytes starts i m → OneOf no-body-kinds (tagOf the-type m)
-    → five-of words (term-of bytes i) scope ≡ []
+pub five-none : (words scope : Set) {columns : List ℕ} {i : ℕ} {m : Node} → Arm columns i m → OneOf no-body-kinds (tagOf the-type m)
+    → five-of words (term-of columns i) scope ≡ []
 five-none words scope a h = in-term (λ t. five-of words t scope) a ∙ no-five words scope _ _ _ h
 
 -- ---- the five rules, over the sets that the code makes

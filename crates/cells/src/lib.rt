@@ -17,26 +17,26 @@ ghost use Rattle.trees.specs.Trees.{term-of, binders-of};
 ghost use Rattle.writes.specs.Written.{Room, Wrote};
 ghost use Rattle.cells.specs.Aggregates.{skips};
 
-pub fn has_sigil_binder(bytes: &[u8], starts: &[u16; 512], i: NodeNo) -> bool
-    requires { ⌜ Has (now bytes) (now starts) (i .0) ⌝ }
-    ensures { λ r. ⌜ r ≡ binder-sigil (binders-of (now (bytes .entry)) (i .0)) ⌝ }
+pub fn has_sigil_binder(columns: &[u16; 2049], i: NodeNo) -> bool
+    requires { ⌜ Has (now columns) (i .0) ⌝ }
+    ensures { λ r. ⌜ r ≡ binder-sigil (binders-of (now (columns .entry)) (i .0)) ⌝ }
 {
-    let node = node_at(bytes, starts, i);
+    let node = node_at(columns, i);
     match node {
-        Node::BinderCell(slot, _, rest) => is_sigil(slot) || has_sigil_binder(bytes, starts, rest),
+        Node::BinderCell(slot, _, rest) => is_sigil(slot) || has_sigil_binder(columns, rest),
         _ => false,
     }
 }
 
 // Whether the summed slot or a binder of an aggregate is a sigil.
-pub fn is_skipped(bytes: &[u8], starts: &[u16; 512], i: NodeNo) -> bool
-    requires { ⌜ Has (now bytes) (now starts) (i .0) ⌝ }
-    ensures { λ r. ⌜ r ≡ skips (term-of (now (bytes .entry)) (i .0)) ⌝ }
+pub fn is_skipped(columns: &[u16; 2049], i: NodeNo) -> bool
+    requires { ⌜ Has (now columns) (i .0) ⌝ }
+    ensures { λ r. ⌜ r ≡ skips (term-of (now (columns .entry)) (i .0)) ⌝ }
 {
-    let node = node_at(bytes, starts, i);
+    let node = node_at(columns, i);
     match node {
-        Node::Sum(slot, binders, _) => is_sigil(slot) || has_sigil_binder(bytes, starts, binders),
-        Node::Count(binders, _) => has_sigil_binder(bytes, starts, binders),
+        Node::Sum(slot, binders, _) => is_sigil(slot) || has_sigil_binder(columns, binders),
+        Node::Count(binders, _) => has_sigil_binder(columns, binders),
         _ => false,
     }
 }
@@ -64,23 +64,22 @@ fn emit_cell(n: NodeNo, slot: Slot, rule: u8, s: Names, out: &mut [u32], at: usi
 
 // A rule's entry at each cell that binds one of some names.
 pub fn emit_cells(
-    bytes: &[u8],
-    starts: &[u16; 512],
+    columns: &[u16; 2049],
     i: NodeNo,
     rule: u8,
     s: Names,
     out: &mut [u32],
     at: usize,
 ) -> usize
-    requires { ⌜ Has (now bytes) (now starts) (i .0) ⌝ }
-    requires { ⌜ Room (findings (at-cells rule (mem s) (cells (binders-of (now bytes) (i .0))))) at ⌝ }
-    ensures { λ r. ⌜ Wrote (findings (at-cells rule (mem s) (cells (binders-of (now (bytes .entry)) (i .0))))) at r (now (out .entry)) (now (out .exit)) ⌝ }
+    requires { ⌜ Has (now columns) (i .0) ⌝ }
+    requires { ⌜ Room (findings (at-cells rule (mem s) (cells (binders-of (now columns) (i .0))))) at ⌝ }
+    ensures { λ r. ⌜ Wrote (findings (at-cells rule (mem s) (cells (binders-of (now (columns .entry)) (i .0))))) at r (now (out .entry)) (now (out .exit)) ⌝ }
 {
-    let node = node_at(bytes, starts, i);
+    let node = node_at(columns, i);
     match node {
         Node::BinderCell(slot, _, rest) => {
             let p = emit_cell(i, slot, rule, s, out, at);
-            emit_cells(bytes, starts, rest, rule, s, out, p)
+            emit_cells(columns, rest, rule, s, out, p)
         }
         _ => at,
     }

@@ -23,30 +23,30 @@ use Rattle.parts.proofs.EnteredLaws.{entered-cases}
 
 -- where the walk goes on below a condition: whether it finds arithmetic there
 abbrev pub goes-on : List ℕ → Below → Bool
-goes-on bytes Nothing = false
-goes-on bytes (Condition b) = has-arith (condition-of bytes (b .0))
-goes-on bytes (Conditions l r) = has-arith (condition-of bytes (l .0)) || has-arith (condition-of bytes (r .0))
-goes-on bytes (Operands l r) = operand-arith (term-of bytes (l .0)) || operand-arith (term-of bytes (r .0))
+goes-on columns Nothing = false
+goes-on columns (Condition b) = has-arith (condition-of columns (b .0))
+goes-on columns (Conditions l r) = has-arith (condition-of columns (l .0)) || has-arith (condition-of columns (r .0))
+goes-on columns (Operands l r) = operand-arith (term-of columns (l .0)) || operand-arith (term-of columns (r .0))
 
-by-kind : (bytes : List ℕ) (n : NodeNo) (m : Node) → has-arith (as-condition (planted (tree-of bytes) n m)) ≡ goes-on bytes (entered-below m)
+by-kind : (columns : List ℕ) (n : NodeNo) (m : Node) → has-arith (as-condition (planted (tree-of columns) n m)) ≡ goes-on columns (entered-below m)
 unfolding has-arith
-by-kind bytes n =
-    entered-cases (tree-of bytes) n (λ s c. has-arith c ≡ goes-on bytes s)
+by-kind columns n =
+    entered-cases (tree-of columns) n (λ s c. has-arith c ≡ goes-on columns s)
     (λ l r. refl) (λ l r. refl) (λ b. refl) (λ k b w. refl) (λ l r w. refl) (λ s y b. refl) (λ o l r. refl) (λ a l. refl) (λ b l. refl) (λ s. refl) (λ k y. refl)
     refl
 
-module _ {bytes starts : List ℕ} {i : ℕ} where
-  pub arith-entered : {m : Node} {s : Below} → Arm bytes starts i m → s ≡ entered-below m → has-arith (condition-of bytes i) ≡ goes-on bytes s
-  arith-entered a e = ap (λ (t : Tree). has-arith (as-condition t)) (a .tree) ∙ by-kind bytes _ _ ∙ ap (goes-on bytes) (sym e)
+module _ {columns : List ℕ} {i : ℕ} where
+  pub arith-entered : {m : Node} {s : Below} → Arm columns i m → s ≡ entered-below m → has-arith (condition-of columns i) ≡ goes-on columns s
+  arith-entered a e = ap (λ (t : Tree). has-arith (as-condition t)) (a .tree) ∙ by-kind columns _ _ ∙ ap (goes-on columns) (sym e)
 
-  pub in-operand : {m : Node} → Arm bytes starts i m → operand-arith (term-of bytes i) ≡ operand-arith (as-term (planted (tree-of bytes) (node-no i) m))
+  pub in-operand : {m : Node} → Arm columns i m → operand-arith (term-of columns i) ≡ operand-arith (as-term (planted (tree-of columns) (node-no i) m))
   in-operand a = ap (λ (t : Tree). operand-arith (as-term t)) (a .tree)
 
-  pub arith-here : {o : ℕ} {l r : NodeNo} → Arm bytes starts i (node.Arith o l r) → operand-arith (term-of bytes i) ≡ true
+  pub arith-here : {o : ℕ} {l r : NodeNo} → Arm columns i (node.Arith o l r) → operand-arith (term-of columns i) ≡ true
   unfolding planted as-term has-arith
   arith-here a = in-operand a
 
-  pub arith-aggregate : {l b : NodeNo} {m : Node} → Aggregate l b m → Arm bytes starts i m → operand-arith (term-of bytes i) ≡ has-arith (condition-of bytes (b .0))
+  pub arith-aggregate : {l b : NodeNo} {m : Node} → Aggregate l b m → Arm columns i m → operand-arith (term-of columns i) ≡ has-arith (condition-of columns (b .0))
   unfolding planted as-term has-arith
   arith-aggregate sum a = in-operand a
   arith-aggregate count a = in-operand a

@@ -9,32 +9,30 @@ ghost use Rattle.paper.specs.Demands.{has-arith, operand-arith};
 ghost use Rattle.record.specs.Stored.{Has};
 ghost use Rattle.trees.specs.Trees.{condition-of, term-of};
 
-pub fn condition_has_arith(bytes: &[u8], starts: &[u16; 512], i: NodeNo) -> bool
-    requires { ⌜ Has (now bytes) (now starts) (i .0) ⌝ }
-    ensures { λ r. ⌜ r ≡ has-arith (condition-of (now (bytes .entry)) (i .0)) ⌝ }
+pub fn condition_has_arith(columns: &[u16; 2049], i: NodeNo) -> bool
+    requires { ⌜ Has (now columns) (i .0) ⌝ }
+    ensures { λ r. ⌜ r ≡ has-arith (condition-of (now (columns .entry)) (i .0)) ⌝ }
 {
-    let node = node_at(bytes, starts, i);
+    let node = node_at(columns, i);
     match entered_below(node) {
         Below::Nothing => false,
-        Below::Condition(b) => condition_has_arith(bytes, starts, b),
+        Below::Condition(b) => condition_has_arith(columns, b),
         Below::Conditions(l, r) => {
-            condition_has_arith(bytes, starts, l) || condition_has_arith(bytes, starts, r)
+            condition_has_arith(columns, l) || condition_has_arith(columns, r)
         }
-        Below::Operands(l, r) => {
-            term_has_arith(bytes, starts, l) || term_has_arith(bytes, starts, r)
-        }
+        Below::Operands(l, r) => { term_has_arith(columns, l) || term_has_arith(columns, r) }
     }
 }
 
 // Of an operand: arithmetic itself, or an aggregate whose body has it.
-pub fn term_has_arith(bytes: &[u8], starts: &[u16; 512], i: NodeNo) -> bool
-    requires { ⌜ Has (now bytes) (now starts) (i .0) ⌝ }
-    ensures { λ r. ⌜ r ≡ operand-arith (term-of (now (bytes .entry)) (i .0)) ⌝ }
+pub fn term_has_arith(columns: &[u16; 2049], i: NodeNo) -> bool
+    requires { ⌜ Has (now columns) (i .0) ⌝ }
+    ensures { λ r. ⌜ r ≡ operand-arith (term-of (now (columns .entry)) (i .0)) ⌝ }
 {
-    let node = node_at(bytes, starts, i);
+    let node = node_at(columns, i);
     match node {
         Node::Arith(_, _, _) => true,
-        Node::Sum(_, _, body) | Node::Count(_, body) => condition_has_arith(bytes, starts, body),
+        Node::Sum(_, _, body) | Node::Count(_, body) => condition_has_arith(columns, body),
         _ => false,
     }
 }

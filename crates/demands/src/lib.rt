@@ -23,8 +23,7 @@ ghost use Rattle.owed.specs.Demanded.{demanded};
 
 // The entries of a condition and of what lies below it.
 pub fn check_chain(
-    bytes: &[u8],
-    starts: &[u16; 512],
+    columns: &[u16; 2049],
     rows: &[[u64; 5]],
     i: NodeNo,
     tied: Names,
@@ -32,59 +31,58 @@ pub fn check_chain(
     out: &mut [u32],
     at: usize,
 ) -> usize
-    requires { ⌜ Has (now bytes) (now starts) (i .0) × Noted (now bytes) (now rows) × (is-condition (tree-of (now bytes) (i .0)) ≡ true) ⌝ }
-    requires { ⌜ Room (demanded asked (condition (condition-of (now bytes) (i .0))) (mem tied)) at ⌝ }
-    ensures { λ r. ⌜ Wrote (demanded asked (condition (condition-of (now (bytes .entry)) (i .0))) (mem tied)) at r (now (out .entry)) (now (out .exit)) ⌝ }
+    requires { ⌜ Has (now columns) (i .0) × Noted (now columns) (now rows) × (is-condition (tree-of (now columns) (i .0)) ≡ true) ⌝ }
+    requires { ⌜ Room (demanded asked (condition (condition-of (now columns) (i .0))) (mem tied)) at ⌝ }
+    ensures { λ r. ⌜ Wrote (demanded asked (condition (condition-of (now (columns .entry)) (i .0))) (mem tied)) at r (now (out .entry)) (now (out .exit)) ⌝ }
 {
-    if is_plain(bytes, rows, i) {
+    if is_plain(columns, rows, i) {
         return at;
     }
-    let node = node_at(bytes, starts, i);
-    let p = check_own_demands(bytes, starts, rows, i, node, tied, asked, out, at);
+    let node = node_at(columns, i);
+    let p = check_own_demands(columns, rows, i, node, tied, asked, out, at);
     let below = entered_below(node);
     match below {
         Below::Nothing => p,
         Below::Condition(b) => {
-            let inner = tied_first(bytes, starts, rows, i, node, tied);
+            let inner = tied_first(columns, rows, i, node, tied);
             let further = asked_first(node);
-            check_chain(bytes, starts, rows, b, inner, further, out, p)
+            check_chain(columns, rows, b, inner, further, out, p)
         }
         Below::Conditions(l, r) => {
-            let first = tied_first(bytes, starts, rows, i, node, tied);
-            let second = tied_second(bytes, starts, rows, i, node, tied);
-            let q = check_chain(bytes, starts, rows, l, first, true, out, p);
-            check_chain(bytes, starts, rows, r, second, true, out, q)
+            let first = tied_first(columns, rows, i, node, tied);
+            let second = tied_second(columns, rows, i, node, tied);
+            let q = check_chain(columns, rows, l, first, true, out, p);
+            check_chain(columns, rows, r, second, true, out, q)
         }
         Below::Operands(l, r) => {
-            let q = descend_nested_chains(bytes, starts, rows, l, tied, out, p);
-            descend_nested_chains(bytes, starts, rows, r, tied, out, q)
+            let q = descend_nested_chains(columns, rows, l, tied, out, p);
+            descend_nested_chains(columns, rows, r, tied, out, q)
         }
     }
 }
 
 // The same of an operand: through arithmetic to the bodies of aggregates.
 pub fn descend_nested_chains(
-    bytes: &[u8],
-    starts: &[u16; 512],
+    columns: &[u16; 2049],
     rows: &[[u64; 5]],
     i: NodeNo,
     tied: Names,
     out: &mut [u32],
     at: usize,
 ) -> usize
-    requires { ⌜ Has (now bytes) (now starts) (i .0) × Noted (now bytes) (now rows) ⌝ }
-    requires { ⌜ Room (demanded true (operand (term-of (now bytes) (i .0))) (mem tied)) at ⌝ }
-    ensures { λ r. ⌜ Wrote (demanded true (operand (term-of (now (bytes .entry)) (i .0))) (mem tied)) at r (now (out .entry)) (now (out .exit)) ⌝ }
+    requires { ⌜ Has (now columns) (i .0) × Noted (now columns) (now rows) ⌝ }
+    requires { ⌜ Room (demanded true (operand (term-of (now columns) (i .0))) (mem tied)) at ⌝ }
+    ensures { λ r. ⌜ Wrote (demanded true (operand (term-of (now (columns .entry)) (i .0))) (mem tied)) at r (now (out .entry)) (now (out .exit)) ⌝ }
 {
-    let node = node_at(bytes, starts, i);
+    let node = node_at(columns, i);
     match node {
         Node::Arith(_, l, r) => {
-            let p = descend_nested_chains(bytes, starts, rows, l, tied, out, at);
-            descend_nested_chains(bytes, starts, rows, r, tied, out, p)
+            let p = descend_nested_chains(columns, rows, l, tied, out, at);
+            descend_nested_chains(columns, rows, r, tied, out, p)
         }
         Node::Sum(_, binders, body) | Node::Count(binders, body) => {
-            let inner = without_binders(bytes, starts, tied, binders);
-            check_chain(bytes, starts, rows, body, inner, true, out, at)
+            let inner = without_binders(columns, tied, binders);
+            check_chain(columns, rows, body, inner, true, out, at)
         }
         _ => at,
     }

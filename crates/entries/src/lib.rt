@@ -13,83 +13,69 @@ ghost use Rattle.writes.specs.Written.{Room, Wrote};
 ghost use Rattle.listing.specs.Parts.{Last, part-of, listed, Filled};
 
 fn part_noted(
-    bytes: &[u8],
-    starts: &[u16; 512],
+    columns: &[u16; 2049],
     i: NodeNo,
     check: Check,
     rows: &mut [[u64; 5]],
     out: &mut [u32],
 ) -> usize
-    requires { ⌜ Last (now bytes) (now starts) (i .0) × (i .0 < length (now rows)) ⌝ }
-    requires { ⌜ Room (part-of check i (condition-of (now bytes) (i .0))) 0 ⌝ }
-    ensures { λ r. ⌜ Wrote (part-of check i (condition-of (now (bytes .entry)) (i .0))) 0 r (now (out .entry)) (now (out .exit)) ⌝ }
+    requires { ⌜ Last (now columns) (i .0) × (i .0 < length (now rows)) ⌝ }
+    requires { ⌜ Room (part-of check i (condition-of (now columns) (i .0))) 0 ⌝ }
+    ensures { λ r. ⌜ Wrote (part-of check i (condition-of (now (columns .entry)) (i .0))) 0 r (now (out .entry)) (now (out .exit)) ⌝ }
 {
-    collect_facts(bytes, starts, rows, i);
-    write_part(bytes, starts, rows, i, check, out)
+    collect_facts(columns, rows, i);
+    write_part(columns, rows, i, check, out)
 }
 
 // The entries that a check asks for. Here and below, few nodes take few rows, since rows have to be cleared.
-pub fn part_entries(
-    bytes: &[u8],
-    starts: &[u16; 512],
-    i: NodeNo,
-    check: Check,
-    out: &mut [u32],
-) -> usize
-    requires { ⌜ Last (now bytes) (now starts) (i .0) ⌝ }
-    requires { ⌜ Room (part-of check i (condition-of (now bytes) (i .0))) 0 ⌝ }
-    ensures { λ r. ⌜ Wrote (part-of check i (condition-of (now (bytes .entry)) (i .0))) 0 r (now (out .entry)) (now (out .exit)) ⌝ }
+pub fn part_entries(columns: &[u16; 2049], i: NodeNo, check: Check, out: &mut [u32]) -> usize
+    requires { ⌜ Last (now columns) (i .0) ⌝ }
+    requires { ⌜ Room (part-of check i (condition-of (now columns) (i .0))) 0 ⌝ }
+    ensures { λ r. ⌜ Wrote (part-of check i (condition-of (now (columns .entry)) (i .0))) 0 r (now (out .entry)) (now (out .exit)) ⌝ }
 {
     let blank = [0u64; 5];
     if i.0 < 32 {
         let mut few = [blank; 32];
-        return part_noted(bytes, starts, i, check, &mut few, out);
+        return part_noted(columns, i, check, &mut few, out);
     }
     let mut all = [blank; 512];
-    part_noted(bytes, starts, i, check, &mut all, out)
+    part_noted(columns, i, check, &mut all, out)
 }
 
 fn list_noted(
-    bytes: &[u8],
-    starts: &[u16; 512],
+    columns: &[u16; 2049],
     i: NodeNo,
     words: Names,
     rows: &mut [[u64; 5]],
     out: &mut [u32],
 ) -> usize
-    requires { ⌜ Last (now bytes) (now starts) (i .0) × (i .0 < length (now rows)) ⌝ }
-    requires { ⌜ Room (listed (mem words) i (condition-of (now bytes) (i .0))) 0 ⌝ }
-    ensures { λ r. ⌜ Filled (listed (mem words) i (condition-of (now (bytes .entry)) (i .0))) r (now (out .entry)) (now (out .exit)) ⌝ }
+    requires { ⌜ Last (now columns) (i .0) × (i .0 < length (now rows)) ⌝ }
+    requires { ⌜ Room (listed (mem words) i (condition-of (now columns) (i .0))) 0 ⌝ }
+    ensures { λ r. ⌜ Filled (listed (mem words) i (condition-of (now (columns .entry)) (i .0))) r (now (out .entry)) (now (out .exit)) ⌝ }
 {
-    collect_facts(bytes, starts, rows, i);
+    collect_facts(columns, rows, i);
     let mut one = [0u32; 1];
-    let count = write_list(bytes, starts, rows, i, words, &mut one);
+    let count = write_list(columns, rows, i, words, &mut one);
     if count == 0 {
         return count;
     }
     if out.len() < count {
         return count;
     }
-    write_list(bytes, starts, rows, i, words, out)
+    write_list(columns, rows, i, words, out)
 }
 
 // The entries of the whole list, and how many they are. They are counted first, so that a list without room writes nothing.
-pub fn list_entries(
-    bytes: &[u8],
-    starts: &[u16; 512],
-    i: NodeNo,
-    words: Names,
-    out: &mut [u32],
-) -> usize
-    requires { ⌜ Last (now bytes) (now starts) (i .0) ⌝ }
-    requires { ⌜ Room (listed (mem words) i (condition-of (now bytes) (i .0))) 0 ⌝ }
-    ensures { λ r. ⌜ Filled (listed (mem words) i (condition-of (now (bytes .entry)) (i .0))) r (now (out .entry)) (now (out .exit)) ⌝ }
+pub fn list_entries(columns: &[u16; 2049], i: NodeNo, words: Names, out: &mut [u32]) -> usize
+    requires { ⌜ Last (now columns) (i .0) ⌝ }
+    requires { ⌜ Room (listed (mem words) i (condition-of (now columns) (i .0))) 0 ⌝ }
+    ensures { λ r. ⌜ Filled (listed (mem words) i (condition-of (now (columns .entry)) (i .0))) r (now (out .entry)) (now (out .exit)) ⌝ }
 {
     let blank = [0u64; 5];
     if i.0 < 32 {
         let mut few = [blank; 32];
-        return list_noted(bytes, starts, i, words, &mut few, out);
+        return list_noted(columns, i, words, &mut few, out);
     }
     let mut all = [blank; 512];
-    list_noted(bytes, starts, i, words, &mut all, out)
+    list_noted(columns, i, words, &mut all, out)
 }

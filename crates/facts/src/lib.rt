@@ -15,33 +15,33 @@ ghost use Prim.Native.Nat.{_<_};
 ghost use lib.ListN.{length, getD};
 ghost use Rattle.paper.specs.declared.Node.the-variants.{ListEnd};
 ghost use Rattle.paper.proofs.Walks.{All};
-ghost use Rattle.record.specs.Stored.{contents, Has};
+ghost use Rattle.record.specs.Stored.{held, Has};
 ghost use Rattle.trees.specs.Trees.{tree-of, is-row};
 ghost use Rattle.known.specs.Known.{parts-of, nodes-of};
 ghost use Rattle.known.specs.Rows.{Right, Kept, Gathered};
 
 // Puts a node's row, where the rows of its parts are right.
-fn put_own(bytes: &[u8], starts: &[u16; 512], rows: &mut [[u64; 5]], i: NodeNo, node: Node)
-    requires { ⌜ Has (now bytes) (now starts) (i .0) × (node ≡ getD (contents (now bytes) .nodes) (i .0) ListEnd) ⌝ }
-    requires { ⌜ (i .0 < length (now rows)) × All (Right (now bytes) (now rows)) (nodes-of (parts-of node)) ⌝ }
-    ensures { λ r. ⌜ Kept (now (bytes .entry)) (now (rows .entry)) (now (rows .exit)) × Right (now (bytes .entry)) (now (rows .exit)) (i .0) ⌝ }
+fn put_own(columns: &[u16; 2049], rows: &mut [[u64; 5]], i: NodeNo, node: Node)
+    requires { ⌜ Has (now columns) (i .0) × (node ≡ getD (held (now columns)) (i .0) ListEnd) ⌝ }
+    requires { ⌜ (i .0 < length (now rows)) × All (Right (now columns) (now rows)) (nodes-of (parts-of node)) ⌝ }
+    ensures { λ r. ⌜ Kept (now (columns .entry)) (now (rows .entry)) (now (rows .exit)) × Right (now (columns .entry)) (now (rows .exit)) (i .0) ⌝ }
 {
-    let f = facts_of(bytes, starts, rows, node);
+    let f = facts_of(columns, rows, node);
     put_facts(rows, i, f);
 }
 
 // A list is gone through by a loop, so that a long one is not deep.
-fn collect_list(bytes: &[u8], starts: &[u16; 512], rows: &mut [[u64; 5]], list: NodeNo)
-    requires { ⌜ Has (now bytes) (now starts) (list .0) × (list .0 < length (now rows)) × (is-row (tree-of (now bytes) (list .0)) ≡ true) ⌝ }
-    ensures { λ r. ⌜ Gathered (now (bytes .entry)) (now (rows .entry)) (now (rows .exit)) (list .0) ⌝ }
+fn collect_list(columns: &[u16; 2049], rows: &mut [[u64; 5]], list: NodeNo)
+    requires { ⌜ Has (now columns) (list .0) × (list .0 < length (now rows)) × (is-row (tree-of (now columns) (list .0)) ≡ true) ⌝ }
+    ensures { λ r. ⌜ Gathered (now (columns .entry)) (now (rows .entry)) (now (rows .exit)) (list .0) ⌝ }
 {
     let mut at = list;
     let mut all = nothing();
     loop {
-        let node = node_at(bytes, starts, at);
+        let node = node_at(columns, at);
         match parts_of(node) {
             Parts::Then(t, rest) => {
-                collect_facts(bytes, starts, rows, t);
+                collect_facts(columns, rows, t);
                 all = join_facts(all, facts_at(rows, t));
                 at = rest;
             }
@@ -54,25 +54,25 @@ fn collect_list(bytes: &[u8], starts: &[u16; 512], rows: &mut [[u64; 5]], list: 
 }
 
 // Puts the row of a node, after those of all conditions and terms below it. Each node has one parent, so that none is looked at twice.
-pub fn collect_facts(bytes: &[u8], starts: &[u16; 512], rows: &mut [[u64; 5]], i: NodeNo)
-    requires { ⌜ Has (now bytes) (now starts) (i .0) × (i .0 < length (now rows)) ⌝ }
-    ensures { λ r. ⌜ Gathered (now (bytes .entry)) (now (rows .entry)) (now (rows .exit)) (i .0) ⌝ }
+pub fn collect_facts(columns: &[u16; 2049], rows: &mut [[u64; 5]], i: NodeNo)
+    requires { ⌜ Has (now columns) (i .0) × (i .0 < length (now rows)) ⌝ }
+    ensures { λ r. ⌜ Gathered (now (columns .entry)) (now (rows .entry)) (now (rows .exit)) (i .0) ⌝ }
 {
-    let node = node_at(bytes, starts, i);
+    let node = node_at(columns, i);
     match parts_of(node) {
         Parts::Leaf => {
-            return put_own(bytes, starts, rows, i, node);
+            return put_own(columns, rows, i, node);
         }
-        Parts::One(b) => collect_facts(bytes, starts, rows, b),
+        Parts::One(b) => collect_facts(columns, rows, b),
         Parts::Two(l, r) => {
-            collect_facts(bytes, starts, rows, l);
-            collect_facts(bytes, starts, rows, r);
+            collect_facts(columns, rows, l);
+            collect_facts(columns, rows, r);
         }
-        Parts::List(list) => collect_list(bytes, starts, rows, list),
+        Parts::List(list) => collect_list(columns, rows, list),
         Parts::Then(b, list) => {
-            collect_facts(bytes, starts, rows, b);
-            collect_list(bytes, starts, rows, list);
+            collect_facts(columns, rows, b);
+            collect_list(columns, rows, list);
         }
     }
-    put_own(bytes, starts, rows, i, node);
+    put_own(columns, rows, i, node);
 }

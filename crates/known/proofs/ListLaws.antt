@@ -80,63 +80,63 @@ ended t k (parts.Then x l) c h = absurd (miss (0 ∷ 1 ∷ 2 ∷ 3 ∷ []) 4 tt 
 -- ---- going along a list
 
 -- what stands before the cell at `at` is right, and `all` is what its terms have
-pub record Along (bytes starts : List ℕ) (before rows : List (List ℕ)) (all : Known) (list at : ℕ) : Type 0 where
-  pub kept : Kept bytes before rows
-  pub has : Has bytes starts at
-  pub row : is-row (tree-of bytes at) ≡ true
-  pub joined : join all (known-of (tree-of bytes at)) ≡ known-of (tree-of bytes list)
-  pub passed : (k : ℕ) → Reaches bytes list k → has-row bytes k ≡ true → Right bytes rows k ⊎ Reaches bytes at k
+pub record Along (columns : List ℕ) (before rows : List (List ℕ)) (all : Known) (list at : ℕ) : Type 0 where
+  pub kept : Kept columns before rows
+  pub has : Has columns at
+  pub row : is-row (tree-of columns at) ≡ true
+  pub joined : join all (known-of (tree-of columns at)) ≡ known-of (tree-of columns list)
+  pub passed : (k : ℕ) → Reaches columns list k → has-row columns k ≡ true → Right columns rows k ⊎ Reaches columns at k
 
-pub along-start : {bytes starts : List ℕ} {rows : List (List ℕ)} {list : ℕ} {all : Known} → all ≡ nothing → Has bytes starts list → is-row (tree-of bytes list) ≡ true
-    → Along bytes starts rows rows all list list
+pub along-start : {columns : List ℕ} {rows : List (List ℕ)} {list : ℕ} {all : Known} → all ≡ nothing → Has columns list → is-row (tree-of columns list) ≡ true
+    → Along columns rows rows all list list
 unfolding join nothing _∪_ none
-along-start {bytes} {list = list} e h r =
-    record { kept = kept-same; has = h; row = r; joined = ap (λ (z : Known). join z (known-of (tree-of bytes list))) e; passed = λ k s t. inr s }
+along-start {columns} {list = list} e h r =
+    record { kept = kept-same; has = h; row = r; joined = ap (λ (z : Known). join z (known-of (tree-of columns list))) e; passed = λ k s t. inr s }
 
-module _ {bytes starts : List ℕ} {before rows : List (List ℕ)} {all : Known} {list at : ℕ} {m : Node} {p : Parts} (a : Along bytes starts before rows all list at)
-    (is : m ≡ node-of bytes at) (of : p ≡ parts-of m) where
-  here : Cell (tree-of bytes) (known-of (tree-of bytes at)) p
+module _ {columns : List ℕ} {before rows : List (List ℕ)} {all : Known} {list at : ℕ} {m : Node} {p : Parts} (a : Along columns before rows all list at)
+    (is : m ≡ node-of columns at) (of : p ≡ parts-of m) where
+  here : Cell (tree-of columns) (known-of (tree-of columns at)) p
   here =
       let arm = known-arm at (a .has) in
-      subst (λ (z : Known). Cell (tree-of bytes) z p) (sym (ap known-of (arm .tree)))
-      (subst (Cell (tree-of bytes) (known-of (planted (tree-of bytes) (node-no at) (node-of bytes at)))) (ap parts-of (sym is) ∙ sym of)
-      (cell (tree-of bytes) (node-no at) (node-of bytes at) (all-map (λ q (c : Child bytes starts at (q .0) (q .1)). c .fits) (references (node-of bytes at)) (arm .children))
+      subst (λ (z : Known). Cell (tree-of columns) z p) (sym (ap known-of (arm .tree)))
+      (subst (Cell (tree-of columns) (known-of (planted (tree-of columns) (node-no at) (node-of columns at)))) (ap parts-of (sym is) ∙ sym of)
+      (cell (tree-of columns) (node-no at) (node-of columns at) (all-map (λ q (c : Child columns at (q .0) (q .1)). c .fits) (references (node-of columns at)) (arm .children))
       (ap is-row (sym (arm .tree)) ∙ a .row)))
 
-  pub parts-held : Held bytes starts at p
-  parts-held = subst (Held bytes starts at) (ap parts-of (sym is) ∙ sym of) (held (node-of bytes at) (known-arm at (a .has)))
+  pub parts-held : Held columns at p
+  parts-held = subst (Held columns at) (ap parts-of (sym is) ∙ sym of) (held (node-of columns at) (known-arm at (a .has)))
 
   -- what is reached from the cell, by its parts
-  onward : (Q : ℕ → Type 0) → All (λ j. (k : ℕ) → Reaches bytes j k → has-row bytes k ≡ true → Q k) (nodes-of p) → (k : ℕ) → Reaches bytes at k → has-row bytes k ≡ true → Q k
+  onward : (Q : ℕ → Type 0) → All (λ j. (k : ℕ) → Reaches columns j k → has-row columns k ≡ true → Q k) (nodes-of p) → (k : ℕ) → Reaches columns at k → has-row columns k ≡ true → Q k
   onward Q b =
-      reached-in Q m (a .has) is (subst (λ (z : Parts). All (λ j. (k : ℕ) → Reaches bytes j k → has-row bytes k ≡ true → Q k) (nodes-of z)) of b)
+      reached-in Q m (a .has) is (subst (λ (z : Parts). All (λ j. (k : ℕ) → Reaches columns j k → has-row columns k ≡ true → Q k) (nodes-of z)) of b)
       (λ t. absurd (row-unread _ (a .row) t))
 
 -- the next cell
-pub along-step : {bytes starts : List ℕ} {before rows after : List (List ℕ)} {all more : Known} {list at : ℕ} {m : Node} {x rest : NodeNo}
-    → Along bytes starts before rows all list at → m ≡ node-of bytes at → parts.Then x rest ≡ parts-of m → Gathered bytes rows after (x .0)
-    → more ≡ join all (known-of (tree-of bytes (x .0))) → Along bytes starts before after more list (rest .0)
-along-step {bytes} {after = after} {all} {list = list} {x = x} {rest} a is of g e =
+pub along-step : {columns : List ℕ} {before rows after : List (List ℕ)} {all more : Known} {list at : ℕ} {m : Node} {x rest : NodeNo}
+    → Along columns before rows all list at → m ≡ node-of columns at → parts.Then x rest ≡ parts-of m → Gathered columns rows after (x .0)
+    → more ≡ join all (known-of (tree-of columns (x .0))) → Along columns before after more list (rest .0)
+along-step {columns} {after = after} {all} {list = list} {x = x} {rest} a is of g e =
     let u = parts-held a is of in
     record {
       kept = kept-then (a .kept) (g .kept);
       has = u .1 .1;
       row = u .2;
       joined =
-          ap (λ (z : Known). join z (known-of (tree-of bytes (rest .0)))) e ∙ join-assoc all (known-of (tree-of bytes (x .0))) (known-of (tree-of bytes (rest .0)))
+          ap (λ (z : Known). join z (known-of (tree-of columns (rest .0)))) e ∙ join-assoc all (known-of (tree-of columns (x .0))) (known-of (tree-of columns (rest .0)))
           ∙ ap (join all) (sym (here a is of)) ∙ a .joined;
       passed =
           λ k r t.
-          ⊎-elim (λ (s : Right bytes _ k). inl (g .kept .right k s))
-          (λ s. onward a is of (λ j. Right bytes after j ⊎ Reaches bytes (rest .0) j) (λ j r t. inl (g .below j r t), (λ j r t. inr r, tt)) k s t) (a .passed k r t);
+          ⊎-elim (λ (s : Right columns _ k). inl (g .kept .right k s))
+          (λ s. onward a is of (λ j. Right columns after j ⊎ Reaches columns (rest .0) j) (λ j r t. inl (g .below j r t), (λ j r t. inr r, tt)) k s t) (a .passed k r t);
     }
 
 -- the end of the list
-pub along-end : {bytes starts : List ℕ} {before rows after : List (List ℕ)} {list at : ℕ} {m : Node} {p : Parts} {f : Facts}
-    → Along bytes starts before rows (meant f) list at → m ≡ node-of bytes at → p ≡ parts-of m → OneOf (0 ∷ 1 ∷ 2 ∷ 3 ∷ []) (tagOf the-type p)
-    → list < length rows → Put rows list f after → Gathered bytes before after list
-along-end {bytes} {rows = rows} {after} {list} {at} {p = p} {f} a is of h l put =
-    let done = ended (tree-of bytes) (known-of (tree-of bytes at)) p (here a is of) h in
+pub along-end : {columns : List ℕ} {before rows after : List (List ℕ)} {list at : ℕ} {m : Node} {p : Parts} {f : Facts}
+    → Along columns before rows (meant f) list at → m ≡ node-of columns at → p ≡ parts-of m → OneOf (0 ∷ 1 ∷ 2 ∷ 3 ∷ []) (tagOf the-type p)
+    → list < length rows → Put rows list f after → Gathered columns before after list
+along-end {columns} {rows = rows} {after} {list} {at} {p = p} {f} a is of h l put =
+    let done = ended (tree-of columns) (known-of (tree-of columns at)) p (here a is of) h in
     let w = put-right put l (sym (join-nothing (meant f)) ∙ ap (join (meant f)) (sym (done .0)) ∙ a .joined) in
     record {
       kept = kept-then (a .kept) (w .0);
@@ -144,6 +144,6 @@ along-end {bytes} {rows = rows} {after} {list} {at} {p = p} {f} a is of h l put 
       below =
           λ k r t.
           w .0 .right k
-          (⊎-elim (λ (s : Right bytes rows k). s)
-          (λ s. onward a is of (Right bytes rows) (subst (All (λ j. (k : ℕ) → Reaches bytes j k → has-row bytes k ≡ true → Right bytes rows k)) (sym (done .1)) tt) k s t) (a .passed k r t));
+          (⊎-elim (λ (s : Right columns rows k). s)
+          (λ s. onward a is of (Right columns rows) (subst (All (λ j. (k : ℕ) → Reaches columns j k → has-row columns k ≡ true → Right columns rows k)) (sym (done .1)) tt) k s t) (a .passed k r t));
     }

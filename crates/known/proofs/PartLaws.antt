@@ -40,22 +40,22 @@ row-items (tree.an-end n) e = refl
 
 -- ---- the parts of a node that was read
 
-module _ (bytes starts : List ℕ) (i : ℕ) where
+module _ (columns : List ℕ) (i : ℕ) where
   abbrev Under : NodeNo → Type 0
-  Under k = (k .0 < i) × Has bytes starts (k .0)
+  Under k = (k .0 < i) × Has columns (k .0)
 
   abbrev pub Held : Parts → Type 0
   Held parts.Leaf = Unit {0}
   Held (parts.One b) = Under b
   Held (parts.Two l r) = Under l × Under r
-  Held (parts.List l) = Under l × (is-row (tree-of bytes (l .0)) ≡ true)
-  Held (parts.Then b l) = Under b × Under l × (is-row (tree-of bytes (l .0)) ≡ true)
+  Held (parts.List l) = Under l × (is-row (tree-of columns (l .0)) ≡ true)
+  Held (parts.Then b l) = Under b × Under l × (is-row (tree-of columns (l .0)) ≡ true)
 
-module _ {bytes starts : List ℕ} {i : ℕ} where
-  below : {s : Sort} {k : NodeNo} → Child bytes starts i s (k .0) → Under bytes starts i k
+module _ {columns : List ℕ} {i : ℕ} where
+  below : {s : Sort} {k : NodeNo} → Child columns i s (k .0) → Under columns i k
   below c = (c .falls, c .has)
 
-  pub held : (m : Node) → Arm bytes starts i m → Held bytes starts i (parts-of m)
+  pub held : (m : Node) → Arm columns i m → Held columns i (parts-of m)
   unfolding parts-of
   held (node.And l r) a = (below (a .children .0), below (a .children .1 .0))
   held (node.Or l r) a = (below (a .children .0), below (a .children .1 .0))
@@ -171,28 +171,28 @@ row-unread (tree.items l) e f = true≢false (sym f)
 row-unread (tree.binders l) e f = true≢false (sym f)
 row-unread (tree.an-end n) e f = true≢false (sym f)
 
-module _ {bytes starts : List ℕ} where
-  pub known-arm : (i : ℕ) → Has bytes starts i → Arm bytes starts i (node-of bytes i)
-  known-arm i h = arm bytes starts i (node-of bytes i) (node-of bytes i) h refl refl
+module _ {columns : List ℕ} where
+  pub known-arm : (i : ℕ) → Has columns i → Arm columns i (node-of columns i)
+  known-arm i h = arm columns i (node-of columns i) (node-of columns i) h refl refl
 
   -- from binders nothing is reached that has a row
-  unread : {i k : ℕ} → Has bytes starts i → of-sort binders (tree-of bytes i) ≡ true → Reaches bytes i k → has-row bytes k ≡ false
+  unread : {i k : ℕ} → Has columns i → of-sort binders (tree-of columns i) ≡ true → Reaches columns i k → has-row columns k ≡ false
   unread h e here = no-row _ e
   unread {i} h e (by {j = j} (s, m) r) =
       let a = known-arm i h in
-      let child = all-at (λ (q : Sort × ℕ). Child bytes starts i (q .0) (q .1)) (references (node-of bytes i)) (s, j) (a .children) m in
-      let only = binders-only (tree-of bytes) _ (node-of bytes i) (ap (of-sort binders) (sym (a .tree)) ∙ e) in
-      let is = all-at (λ (q : Sort × ℕ). q .0 ≡ binders) (references (node-of bytes i)) (s, j) only m in
-      unread (child .has) (subst (λ (z : Sort). of-sort z (tree-of bytes j) ≡ true) is (child .fits)) r
+      let child = all-at (λ (q : Sort × ℕ). Child columns i (q .0) (q .1)) (references (node-of columns i)) (s, j) (a .children) m in
+      let only = binders-only (tree-of columns) _ (node-of columns i) (ap (of-sort binders) (sym (a .tree)) ∙ e) in
+      let is = all-at (λ (q : Sort × ℕ). q .0 ≡ binders) (references (node-of columns i)) (s, j) only m in
+      unread (child .has) (subst (λ (z : Sort). of-sort z (tree-of columns j) ≡ true) is (child .fits)) r
 
   -- what holds of a node and of all that is reached from its parts
-  pub reached-in : {i : ℕ} (Q : ℕ → Type 0) (m : Node) → Has bytes starts i → m ≡ node-of bytes i
-      → All (λ j. (k : ℕ) → Reaches bytes j k → has-row bytes k ≡ true → Q k) (nodes-of (parts-of m)) → (has-row bytes i ≡ true → Q i)
-      → (k : ℕ) → Reaches bytes i k → has-row bytes k ≡ true → Q k
+  pub reached-in : {i : ℕ} (Q : ℕ → Type 0) (m : Node) → Has columns i → m ≡ node-of columns i
+      → All (λ j. (k : ℕ) → Reaches columns j k → has-row columns k ≡ true → Q k) (nodes-of (parts-of m)) → (has-row columns i ≡ true → Q i)
+      → (k : ℕ) → Reaches columns i k → has-row columns k ≡ true → Q k
   reached-in Q m h e p q k here t = q t
   reached-in {i} Q m h e p q k (by {j = j} (s, l) r) t =
-      all-at (λ (z : Sort × ℕ). (k : ℕ) → Reaches bytes (z .1) k → has-row bytes k ≡ true → Q k) (references (node-of bytes i)) (s, j)
-      (covered (λ j. (k : ℕ) → Reaches bytes j k → has-row bytes k ≡ true → Q k) (node-of bytes i) (subst (λ (z : Node). All (λ j. (k : ℕ) → Reaches bytes j k → has-row bytes k ≡ true → Q k) (nodes-of (parts-of z))) e p)
-      (all-map {D = λ (z : Sort × ℕ). z .0 ≡ binders → (k : ℕ) → Reaches bytes (z .1) k → has-row bytes k ≡ true → Q k} (λ z (c : Child bytes starts i (z .0) (z .1)) is k r t. absurd (true≢false (sym t ∙ unread (c .has) (subst (λ (y : Sort). of-sort y (tree-of bytes (z .1)) ≡ true) is (c .fits)) r)))
-      (references (node-of bytes i)) (known-arm i h .children)))
+      all-at (λ (z : Sort × ℕ). (k : ℕ) → Reaches columns (z .1) k → has-row columns k ≡ true → Q k) (references (node-of columns i)) (s, j)
+      (covered (λ j. (k : ℕ) → Reaches columns j k → has-row columns k ≡ true → Q k) (node-of columns i) (subst (λ (z : Node). All (λ j. (k : ℕ) → Reaches columns j k → has-row columns k ≡ true → Q k) (nodes-of (parts-of z))) e p)
+      (all-map {D = λ (z : Sort × ℕ). z .0 ≡ binders → (k : ℕ) → Reaches columns (z .1) k → has-row columns k ≡ true → Q k} (λ z (c : Child columns i (z .0) (z .1)) is k r t. absurd (true≢false (sym t ∙ unread (c .has) (subst (λ (y : Sort). of-sort y (tree-of columns (z .1)) ≡ true) is (c .fits)) r)))
+      (references (node-of columns i)) (known-arm i h .children)))
       l k r t

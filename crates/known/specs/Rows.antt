@@ -11,7 +11,7 @@ use Rattle.paper.specs.Record.{Sort}
 use Rattle.paper.specs.Shape.{references, names-in}
 use Rattle.paper.proofs.Walks.{All}
 use Rattle.names.specs.Words.{mem}
-use Rattle.record.specs.Stored.{contents, Has}
+use Rattle.record.specs.Stored.{held, Has}
 use Rattle.trees.specs.Trees.{tree-of, is-condition, is-term}
 use Rattle.known.specs.Known.{Known, known-of, parts-of, nodes-of}
 use Rattle.known.specs.declared.Facts.{Facts}
@@ -34,21 +34,21 @@ abbrev pub facts-at : List (List ℕ) → ℕ → Facts
 facts-at rows k = facts-in (getD rows k [])
 
 -- row k holds what is known of node k
-pub record Right (bytes : List ℕ) (rows : List (List ℕ)) (k : ℕ) : Type 0 where
-  pub holds : meant (facts-at rows k) ≡ known-of (tree-of bytes k)
+pub record Right (columns : List ℕ) (rows : List (List ℕ)) (k : ℕ) : Type 0 where
+  pub holds : meant (facts-at rows k) ≡ known-of (tree-of columns k)
 
 -- conditions and terms have rows that are read; the cells of lists have none
 abbrev pub has-row : List ℕ → ℕ → Bool
-has-row bytes k = is-condition (tree-of bytes k) || is-term (tree-of bytes k)
+has-row columns k = is-condition (tree-of columns k) || is-term (tree-of columns k)
 
-pub record Noted (bytes : List ℕ) (rows : List (List ℕ)) : Type 0 where
-  pub fits : length (contents bytes .nodes) ≤ length rows
-  pub row : (k : ℕ) → k < length (contents bytes .nodes) → has-row bytes k ≡ true → Right bytes rows k
+pub record Noted (columns : List ℕ) (rows : List (List ℕ)) : Type 0 where
+  pub fits : length (held columns) ≤ length rows
+  pub row : (k : ℕ) → k < length (held columns) → has-row columns k ≡ true → Right columns rows k
 
 -- what the facts of a node m are found from: the rows of its parts, names of the table, and nodes that the array has
-pub record Sound (bytes starts : List ℕ) (rows : List (List ℕ)) (m : Node) : Type 0 where
-  pub parts : All (λ k. (k < length rows) × Right bytes rows k) (nodes-of (parts-of m))
-  pub has : All (λ q. Has bytes starts (q .1)) (references m)
+pub record Sound (columns : List ℕ) (rows : List (List ℕ)) (m : Node) : Type 0 where
+  pub parts : All (λ k. (k < length rows) × Right columns rows k) (nodes-of (parts-of m))
+  pub has : All (λ q. Has columns (q .1)) (references m)
   pub tabled : All (λ x. x < 128) (names-in m)
 
 -- ---- what a call on a node does to the rows
@@ -60,24 +60,24 @@ pub record Put (before : List (List ℕ)) (i : ℕ) (f : Facts) (after : List (L
   pub there : after ≡ set before i row
 
 -- what was right stays right
-pub record Kept (bytes : List ℕ) (before after : List (List ℕ)) : Type 0 where
+pub record Kept (columns : List ℕ) (before after : List (List ℕ)) : Type 0 where
   pub long : length after ≡ length before
-  pub right : (k : ℕ) → Right bytes before k → Right bytes after k
+  pub right : (k : ℕ) → Right columns before k → Right columns after k
 
 abbrev pub node-of : List ℕ → ℕ → Node
-node-of bytes i = getD (contents bytes .nodes) i ListEnd
+node-of columns i = getD (held columns) i ListEnd
 
 -- node i refers to node k
 abbrev pub Refers : List ℕ → ℕ → ℕ → Type 0
-Refers bytes i k = (s : Sort) × List·Memᴰ (s, k) (references (node-of bytes i))
+Refers columns i k = (s : Sort) × List·Memᴰ (s, k) (references (node-of columns i))
 
 -- node k is node i, or stands below it
-pub data Reaches (bytes : List ℕ) : ℕ → ℕ → Type 0 where
-  here : {i : ℕ} → Reaches bytes i i
-  by : {i j k : ℕ} → Refers bytes i j → Reaches bytes j k → Reaches bytes i k
+pub data Reaches (columns : List ℕ) : ℕ → ℕ → Type 0 where
+  here : {i : ℕ} → Reaches columns i i
+  by : {i j k : ℕ} → Refers columns i j → Reaches columns j k → Reaches columns i k
 
 -- the rows of node i and of all conditions and terms below it are right, and none was spoilt
-pub record Gathered (bytes : List ℕ) (before after : List (List ℕ)) (i : ℕ) : Type 0 where
-  pub kept : Kept bytes before after
-  pub here : Right bytes after i
-  pub below : (k : ℕ) → Reaches bytes i k → has-row bytes k ≡ true → Right bytes after k
+pub record Gathered (columns : List ℕ) (before after : List (List ℕ)) (i : ℕ) : Type 0 where
+  pub kept : Kept columns before after
+  pub here : Right columns after i
+  pub below : (k : ℕ) → Reaches columns i k → has-row columns k ≡ true → Right columns after k

@@ -1,4 +1,5 @@
 // A node by its number alone.
+use columns::fill;
 use paper::Node;
 use paper::NodeNo;
 use paper::Verdict;
@@ -23,5 +24,7 @@ pub fn node(bytes: &[u8], i: NodeNo) -> Node
     if nodes <= (i.0 as usize) {
         return Node::ListEnd;
     }
-    node_at(bytes, &a.starts, i)
+    let mut columns = [0u16; 2049];
+    fill(bytes, &a.starts, nodes, &mut columns);
+    node_at(&columns, i)
 }

@@ -54,12 +54,12 @@ unfolding listed
 listed-are words n c e = ap (λ (s : Set). scoped words (condition c) s ++ (findings (for-names 28 n (free c)) ++ demands-of c)) (sym e)
 
 -- what a walk from the last node asks for, where the rows were gathered from there
-pub from-last : {bytes starts : List ℕ} {before after : List (List ℕ)} {i : ℕ} → Last bytes starts i × (i < length before) → Gathered bytes before after i
-    → Has bytes starts i × Noted bytes after × (is-condition (tree-of bytes i) ≡ true)
-from-last p g = let l = p .0 in (l .has, all-noted g (l .all) (p .1), last-body (l .has) (l .all))
+pub from-last : {columns : List ℕ} {before after : List (List ℕ)} {i : ℕ} → Last columns i × (i < length before) → Gathered columns before after i
+    → Has columns i × Noted columns after × (is-condition (tree-of columns i) ≡ true)
+from-last p g = let l = p .0 in (l .has, all-noted (l .has .0) g (l .all) (p .1), last-body (l .has) (l .all))
 
-pub in-all-rows : {bytes starts : List ℕ} {i : ℕ} → Last bytes starts i → i < 512
-in-all-rows {bytes} {i = i} l = few bytes i (l .has .1)
+pub in-all-rows : {columns : List ℕ} {i : ℕ} → Last columns i → i < 512
+in-all-rows l = few (l .has)
 
 -- ---- all or none
 

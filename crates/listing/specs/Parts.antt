@@ -11,7 +11,7 @@ use Rattle.paper.specs.Tree.{Condition}
 use Rattle.paper.specs.FreeAndRestricted.{free, holds-sigil}
 use Rattle.paper.specs.Places.{condition, for-names, findings}
 use lib.ListN.{length}
-use Rattle.record.specs.Stored.{contents, Has}
+use Rattle.record.specs.Stored.{held, Has}
 use Rattle.writes.specs.Written.{Wrote}
 use Rattle.scoping.specs.Scoped.{scoped}
 use Rattle.names.specs.Words.{mem}
@@ -32,10 +32,10 @@ part-of Demands n c = demands-of c
 unfoldable pub listed : Set → NodeNo → Condition → List Finding
 listed words n c = scoped words (condition c) none ++ (findings (for-names 28 n (free c)) ++ demands-of c)
 
--- the array has the bytes, and node i is their last
-pub record Last (bytes starts : List ℕ) (i : ℕ) : Type 0 where
-  pub has : Has bytes starts i
-  pub all : length (contents bytes .nodes) ≡ i + 1
+-- the columns hold node i, and it is the last
+pub record Last (columns : List ℕ) (i : ℕ) : Type 0 where
+  pub has : Has columns i
+  pub all : length (held columns) ≡ i + 1
 
 -- all entries are in the buffer, or none where it has no room for all
 pub record Filled (fs : List Finding) (count : ℕ) (before after : List ℕ) : Type 0 where

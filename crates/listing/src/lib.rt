@@ -23,61 +23,56 @@ pub enum Check {
 
 // 30 to 32; none if the condition holds a sigil.
 pub fn check_demands(
-    bytes: &[u8],
-    starts: &[u16; 512],
+    columns: &[u16; 2049],
     rows: &[[u64; 5]],
     i: NodeNo,
     out: &mut [u32],
     at: usize,
 ) -> usize
-    requires { ⌜ Has (now bytes) (now starts) (i .0) × Noted (now bytes) (now rows) × (is-condition (tree-of (now bytes) (i .0)) ≡ true) ⌝ }
-    requires { ⌜ Room (demands-of (condition-of (now bytes) (i .0))) at ⌝ }
-    ensures { λ r. ⌜ Wrote (demands-of (condition-of (now (bytes .entry)) (i .0))) at r (now (out .entry)) (now (out .exit)) ⌝ }
+    requires { ⌜ Has (now columns) (i .0) × Noted (now columns) (now rows) × (is-condition (tree-of (now columns) (i .0)) ≡ true) ⌝ }
+    requires { ⌜ Room (demands-of (condition-of (now columns) (i .0))) at ⌝ }
+    ensures { λ r. ⌜ Wrote (demands-of (condition-of (now (columns .entry)) (i .0))) at r (now (out .entry)) (now (out .exit)) ⌝ }
 {
-    if body_has_sigil(bytes, rows, i) {
+    if body_has_sigil(columns, rows, i) {
         return at;
     }
     let tied = names::empty();
-    check_chain(bytes, starts, rows, i, tied, true, out, at)
+    check_chain(columns, rows, i, tied, true, out, at)
 }
 
 // 20 to 27 with the seed's names in scope, or 28, or 30 to 32.
 pub fn write_part(
-    bytes: &[u8],
-    starts: &[u16; 512],
+    columns: &[u16; 2049],
     rows: &[[u64; 5]],
     i: NodeNo,
     check: Check,
     out: &mut [u32],
 ) -> usize
-    requires { ⌜ Has (now bytes) (now starts) (i .0) × Noted (now bytes) (now rows) × (is-condition (tree-of (now bytes) (i .0)) ≡ true) ⌝ }
-    requires { ⌜ Room (part-of check i (condition-of (now bytes) (i .0))) 0 ⌝ }
-    ensures { λ r. ⌜ Wrote (part-of check i (condition-of (now (bytes .entry)) (i .0))) 0 r (now (out .entry)) (now (out .exit)) ⌝ }
+    requires { ⌜ Has (now columns) (i .0) × Noted (now columns) (now rows) × (is-condition (tree-of (now columns) (i .0)) ≡ true) ⌝ }
+    requires { ⌜ Room (part-of check i (condition-of (now columns) (i .0))) 0 ⌝ }
+    ensures { λ r. ⌜ Wrote (part-of check i (condition-of (now (columns .entry)) (i .0))) 0 r (now (out .entry)) (now (out .exit)) ⌝ }
 {
     match check {
-        Check::Scoping { seed, words } => {
-            check_condition(bytes, starts, rows, i, seed, words, out, 0)
-        }
-        Check::Closedness => check_leaf_closed(bytes, rows, i, out, 0),
-        Check::Demands => check_demands(bytes, starts, rows, i, out, 0),
+        Check::Scoping { seed, words } => { check_condition(columns, rows, i, seed, words, out, 0) }
+        Check::Closedness => check_leaf_closed(columns, rows, i, out, 0),
+        Check::Demands => check_demands(columns, rows, i, out, 0),
     }
 }
 
 // 20 to 27 with nothing in scope, then 28, then 30 to 32.
 pub fn write_list(
-    bytes: &[u8],
-    starts: &[u16; 512],
+    columns: &[u16; 2049],
     rows: &[[u64; 5]],
     i: NodeNo,
     words: Names,
     out: &mut [u32],
 ) -> usize
-    requires { ⌜ Has (now bytes) (now starts) (i .0) × Noted (now bytes) (now rows) × (is-condition (tree-of (now bytes) (i .0)) ≡ true) ⌝ }
-    requires { ⌜ Room (listed (mem words) i (condition-of (now bytes) (i .0))) 0 ⌝ }
-    ensures { λ r. ⌜ Wrote (listed (mem words) i (condition-of (now (bytes .entry)) (i .0))) 0 r (now (out .entry)) (now (out .exit)) ⌝ }
+    requires { ⌜ Has (now columns) (i .0) × Noted (now columns) (now rows) × (is-condition (tree-of (now columns) (i .0)) ≡ true) ⌝ }
+    requires { ⌜ Room (listed (mem words) i (condition-of (now columns) (i .0))) 0 ⌝ }
+    ensures { λ r. ⌜ Wrote (listed (mem words) i (condition-of (now (columns .entry)) (i .0))) 0 r (now (out .entry)) (now (out .exit)) ⌝ }
 {
     let scope = names::empty();
-    let p = check_condition(bytes, starts, rows, i, scope, words, out, 0);
-    let q = check_leaf_closed(bytes, rows, i, out, p);
-    check_demands(bytes, starts, rows, i, out, q)
+    let p = check_condition(columns, rows, i, scope, words, out, 0);
+    let q = check_leaf_closed(columns, rows, i, out, p);
+    check_demands(columns, rows, i, out, q)
 }

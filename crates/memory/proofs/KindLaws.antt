@@ -1,4 +1,5 @@
--- What holds of every kind of the table, by one computed test over it: its fields make a row, its body has at most 6 bytes, and its row has its number.
+-- What holds of every kind of the table, by one computed test over it: its fields make a row and begin where the columns take them from, its body has at most
+-- 6 bytes, and its row has its number.
 -- Assumes nothing.
 use mathlib.Core.Path.{_≡_, refl, sym, ap, _∙_}
 use mathlib.Core.Bool.{Bool, true, false, _&&_}
@@ -28,6 +29,7 @@ use Rattle.paper.specs.Record.{
 }
 use Rattle.paper.proofs.Fields.{as-node}
 use Rattle.memory.specs.Rows.{range-code, placed, references, row-for}
+use Rattle.memory.specs.Columns.{second-place, third-place}
 use Rattle.memory.proofs.FieldLaws.{Plain, RowLike}
 use Rattle.memory.proofs.Unnamed.{and-left, and-right}
 
@@ -52,15 +54,25 @@ like [] e = tt
 like (f ∷ fs) e =
     (plain (placed fs (0 + field-bytes f)) (and-left _ _ e), leb-true _ 2 (and-right (plain? (placed fs (0 + field-bytes f))) _ e))
 
+-- fields of which the first stands at a place of the body begin at these places
+unfoldable pub begin? : List Field → ℕ → List ℕ → Bool
+begin? [] o ps = true
+begin? (f ∷ fs) o [] = false
+begin? (f ∷ fs) o (p ∷ ps) = eqb o p && begin? fs (o + field-bytes f) ps
+
+-- where the columns take the fields of a kind from
+abbrev pub places : ℕ → List ℕ
+places k = 0 ∷ second-place k ∷ third-place k ∷ []
+
 good? : Kind → Bool
-good? r = like? (r .body) && leb (body-length (r .body)) 6
+good? r = like? (r .body) && (leb (body-length (r .body)) 6 && begin? (r .body) 0 (places (r .kind)))
 
 all-good? : List Kind → Bool
 all-good? [] = true
 all-good? (r ∷ rs) = good? r && all-good? rs
 
 all-good : all-good? kinds ≡ true
-unfolding all-good? good? like? plain? kinds slot-of body-length field-bytes placed references
+unfolding all-good? good? like? plain? begin? kinds slot-of body-length field-bytes placed references second-place third-place
 all-good = refl
 
 -- ---- what it comes to
@@ -69,6 +81,7 @@ pub record Known (k : ℕ) (r : Kind) : Type 0 where
   pub row-like : RowLike (r .body)
   pub short : body-length (r .body) ≤ 6
   pub numbered : r .kind ≡ k
+  pub begin : begin? (r .body) 0 (places k) ≡ true
 
 node-eq : (r s : Kind) → node r ≡ node s → r ≡ s
 node-eq r s e = cc
@@ -89,10 +102,12 @@ pub known : (k : ℕ) (r : Kind) → announced k ≡ node r → Known k r
 unfolding good?
 known k r e =
     let w = known-in kinds k r all-good (as-node k r e) in
+    let g = and-right (like? (r .body)) _ (w .0) in
     record {
       row-like = like (r .body) (and-left _ _ (w .0));
-      short = leb-true _ 6 (and-right (like? (r .body)) _ (w .0));
+      short = leb-true _ 6 (and-left _ _ g);
       numbered = w .1;
+      begin = ap (λ (n : ℕ). begin? (r .body) 0 (places n)) (sym (w .1)) ∙ and-right (leb (body-length (r .body)) 6) _ g;
     }
 
 -- a row's length is the body's

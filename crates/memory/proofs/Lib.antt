@@ -3,6 +3,7 @@ pub mod Unnamed
 pub mod RowLaws
 pub mod FieldLaws
 pub mod KindLaws
+pub mod ColumnLaws
 pub mod HeadLaws
 pub mod EndLaws
 pub mod NameLaws

@@ -3,13 +3,12 @@
 use mathlib.Core.Path.{_≡_, refl, sym, ap, _∙_}
 use mathlib.Core.Bool.{Bool, true, false, _&&_, false≢true}
 use mathlib.Core.List.{List, [], _∷_, _++_, map}
-use Prim.Native.Nat.{ℕ, _+_}
+use Prim.Native.Nat.{ℕ}
 use lib.Dec.{eqb}
-use lib.ListN.{drop, getD}
 use borrow.Author.Tests.{eqb-true, eqb-false, ne-eqb}
 use Rattle.paper.specs.declared.Node.the-variants.{ListEnd}
 use Rattle.paper.specs.Record.{pick, Kind, kinds, node-kind, format, name, end, unknown, announced}
-use Rattle.memory.specs.Decoded.{node-read, node-from}
+use Rattle.memory.specs.Columns.{node-said}
 
 pub and-left : (a b : Bool) → (a && b) ≡ true → a ≡ true
 and-left true b e = refl
@@ -68,24 +67,21 @@ unfolding Away node-kind
 no-kind [] k a = refl
 no-kind (r ∷ rs) k a = rw (ne-eqb k (r .kind) (a .0)) (no-kind rs k (a .1))
 
--- ---- a byte that says no more than `ListEnd`
+-- ---- a kind that says no more than `ListEnd`
 
-no-node : (s t u : Bool) (b : List ℕ) → node-read (pick s format (pick t name (pick u end unknown))) b ≡ ListEnd
-unfolding node-read
-no-node true t u b = refl
-no-node false true u b = refl
-no-node false false true b = refl
-no-node false false false b = refl
+no-node : (s t u : Bool) (xs : List ℕ) → node-said (pick s format (pick t name (pick u end unknown))) xs ≡ ListEnd
+unfolding node-said
+no-node true t u xs = refl
+no-node false true u xs = refl
+no-node false false true xs = refl
+no-node false false false xs = refl
 
-says-end : (k : ℕ) (b : List ℕ) → Away ((conditions ++ terms) ++ cells) k → (t : Bool) → eqb k 0x30 ≡ t → node-read (announced k) b ≡ ListEnd
-unfolding node-read announced node-kind kinds
-says-end k b a true e = rw (eqb-true k 0x30 e)
-says-end k b a false e =
-    rw (no-kind kinds k (between (conditions ++ terms) cells 0x30 k (eqb-false k 0x30 e) a)) (no-node (eqb k 0x01) (eqb k 0x02) (eqb k 0x7F) b)
+says-end : (k : ℕ) (xs : List ℕ) → Away ((conditions ++ terms) ++ cells) k → (t : Bool) → eqb k 0x30 ≡ t → node-said (announced k) xs ≡ ListEnd
+unfolding node-said announced node-kind kinds
+says-end k xs a true e = rw (eqb-true k 0x30 e)
+says-end k xs a false e =
+    rw (no-kind kinds k (between (conditions ++ terms) cells 0x30 k (eqb-false k 0x30 e) a)) (no-node (eqb k 0x01) (eqb k 0x02) (eqb k 0x7F) xs)
 
 -- a match that names every kind but 0x30
-pub last-arm : (bytes : List ℕ) (at k : ℕ) → k ≡ getD bytes at 0 → Rest ((conditions ++ terms) ++ cells) k (Unit {0}) → ListEnd ≡ node-from bytes at
-unfolding node-from
-last-arm bytes at k p m =
-    sym (says-end k (drop (at + 1) bytes) (rest-away ((conditions ++ terms) ++ cells) k (Unit {0}) m .1) (eqb k 0x30) refl)
-    ∙ ap (λ (n : ℕ). node-read (announced n) (drop (at + 1) bytes)) p
+pub last-arm : (k : ℕ) (xs : List ℕ) → Rest ((conditions ++ terms) ++ cells) k (Unit {0}) → ListEnd ≡ node-said (announced k) xs
+last-arm k xs m = sym (says-end k xs (rest-away ((conditions ++ terms) ++ cells) k (Unit {0}) m .1) (eqb k 0x30) refl)

@@ -5,4 +5,5 @@ pub mod Heads
 pub mod Ends
 pub mod Naming
 pub mod Decoded
+pub mod Columns
 pub mod Starts

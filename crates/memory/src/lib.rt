@@ -35,3 +35,14 @@ pub struct Scanned {
     pub verdict: Verdict,
     pub reserved: Names,
 }
+
+// Nodes as columns: where each column begins in their array, and where the number of nodes stands.
+pub const KINDS: usize = 0;
+
+pub const FIRSTS: usize = 512;
+
+pub const SECONDS: usize = 1024;
+
+pub const THIRDS: usize = 1536;
+
+pub const COUNT: usize = 2048;

@@ -1,17 +1,25 @@
-// A node from the bytes of its record.
-use octets::byte;
-use octets::byte_after;
-use octets::number;
-use octets::tail;
+// A node from the numbers in its columns.
 use paper::NameNo;
 use paper::Node;
 use paper::NodeNo;
 use paper::Slot;
 ghost use mathlib.Core.Path.{_≡_};
-ghost use Prim.Native.Nat.{_+_, _*_, _<_};
-ghost use lib.ListN.{getD};
-ghost use Rattle.paper.specs.Record.{node-no, slot-of};
-ghost use Rattle.memory.specs.Decoded.{node-from};
+ghost use mathlib.Core.List.{[], _∷_};
+ghost use Prim.Native.Nat.{_/_, _%_};
+ghost use Rattle.paper.specs.Record.{slot-of, announced};
+ghost use Rattle.memory.specs.Columns.{node-said};
+
+fn lower(x: u16) -> u8
+    ensures { λ r. ⌜ r ≡ x % 256 ⌝ }
+{
+    (x % 256) as u8
+}
+
+fn upper(x: u16) -> u8
+    ensures { λ r. ⌜ r ≡ x / 256 ⌝ }
+{
+    (x / 256) as u8
+}
 
 fn slot_of(sort: u8, number: u8) -> Slot
     ensures { λ r. ⌜ r ≡ slot-of sort number ⌝ }
@@ -23,53 +31,48 @@ fn slot_of(sort: u8, number: u8) -> Slot
     }
 }
 
-fn slot_at(b: &[u8], i: usize) -> Slot
-    ensures { λ r. ⌜ r ≡ slot-of (getD (now (b .entry)) i 0) (getD (now (b .entry)) (i + 1) 0) ⌝ }
+// A slot's sort is the lower byte, its number the upper one.
+fn slot_in(x: u16) -> Slot
+    ensures { λ r. ⌜ r ≡ slot-of (x % 256) (x / 256) ⌝ }
 {
-    slot_of(byte(b, i), byte_after(b, i))
+    let sort = lower(x);
+    let number = upper(x);
+    slot_of(sort, number)
 }
 
-fn node_no(b: &[u8], i: usize) -> NodeNo
-    ensures { λ r. ⌜ r ≡ node-no (getD (now (b .entry)) i 0 + 256 * getD (now (b .entry)) (i + 1) 0) ⌝ }
+// The node of a kind whose first, second and third fields these are.
+pub fn node_of(kind: u16, a: u16, b: u16, c: u16) -> Node
+    ensures { λ r. ⌜ r ≡ node-said (announced kind) (a ∷ b ∷ c ∷ []) ⌝ }
 {
-    NodeNo(number(b, i))
-}
-
-// The node of the record that begins at a byte. The offsets are those of the body, after the kind.
-pub fn node_from(bytes: &[u8], at: usize) -> Node
-    requires { ⌜ at < 65536 ⌝ }
-    ensures { λ r. ⌜ r ≡ node-from (now (bytes .entry)) at ⌝ }
-{
-    let b = tail(bytes, at + 1);
-    match byte(bytes, at) {
-        0x10 => Node::And(node_no(b, 0), node_no(b, 2)),
-        0x11 => Node::Or(node_no(b, 0), node_no(b, 2)),
-        0x12 => Node::Not(node_no(b, 0)),
-        0x13 => Node::Formerly(node_no(b, 0), number(b, 2)),
-        0x14 => Node::Previous(node_no(b, 0), number(b, 2)),
-        0x15 => Node::Since(node_no(b, 0), node_no(b, 2), number(b, 4)),
-        0x16 => Node::Exists(slot_at(b, 0), byte(b, 2), node_no(b, 3)),
-        0x17 => Node::Comparison(byte(b, 0), node_no(b, 1), node_no(b, 3)),
-        0x18 => Node::Predicate(number(b, 0), node_no(b, 2)),
-        0x19 => Node::Refine(node_no(b, 0), node_no(b, 2)),
-        0x1A => Node::Tp(slot_at(b, 0)),
-        0x1B => Node::Call(number(b, 0)),
-        0x1C => Node::SigilRef(number(b, 0)),
-        0x20 => Node::Var(NameNo(byte(b, 0))),
+    match kind {
+        0x10 => Node::And(NodeNo(a), NodeNo(b)),
+        0x11 => Node::Or(NodeNo(a), NodeNo(b)),
+        0x12 => Node::Not(NodeNo(a)),
+        0x13 => Node::Formerly(NodeNo(a), b),
+        0x14 => Node::Previous(NodeNo(a), b),
+        0x15 => Node::Since(NodeNo(a), NodeNo(b), c),
+        0x16 => Node::Exists(slot_in(a), lower(b), NodeNo(c)),
+        0x17 => Node::Comparison(lower(a), NodeNo(b), NodeNo(c)),
+        0x18 => Node::Predicate(a, NodeNo(b)),
+        0x19 => Node::Refine(NodeNo(a), NodeNo(b)),
+        0x1A => Node::Tp(slot_in(a)),
+        0x1B => Node::Call(a),
+        0x1C => Node::SigilRef(a),
+        0x20 => Node::Var(NameNo(lower(a))),
         0x21 => Node::Wildcard,
-        0x22 => Node::Literal(number(b, 0)),
-        0x23 => Node::ScopeField(number(b, 0)),
-        0x24 => Node::ContextField(number(b, 0)),
-        0x25 => Node::ParamRef(byte(b, 0)),
-        0x26 => Node::BinderRef(byte(b, 0)),
-        0x27 => Node::Array(node_no(b, 0)),
-        0x28 => Node::Arith(byte(b, 0), node_no(b, 1), node_no(b, 3)),
-        0x29 => Node::Sum(slot_at(b, 0), node_no(b, 2), node_no(b, 4)),
-        0x2A => Node::Count(node_no(b, 0), node_no(b, 2)),
-        0x2B => Node::AggregateCall(number(b, 0)),
-        0x31 => Node::ArgumentCell(number(b, 0), node_no(b, 2), node_no(b, 4)),
-        0x32 => Node::ItemCell(node_no(b, 0), node_no(b, 2)),
-        0x33 => Node::BinderCell(slot_at(b, 0), byte(b, 2), node_no(b, 3)),
+        0x22 => Node::Literal(a),
+        0x23 => Node::ScopeField(a),
+        0x24 => Node::ContextField(a),
+        0x25 => Node::ParamRef(lower(a)),
+        0x26 => Node::BinderRef(lower(a)),
+        0x27 => Node::Array(NodeNo(a)),
+        0x28 => Node::Arith(lower(a), NodeNo(b), NodeNo(c)),
+        0x29 => Node::Sum(slot_in(a), NodeNo(b), NodeNo(c)),
+        0x2A => Node::Count(NodeNo(a), NodeNo(b)),
+        0x2B => Node::AggregateCall(a),
+        0x31 => Node::ArgumentCell(a, NodeNo(b), NodeNo(c)),
+        0x32 => Node::ItemCell(NodeNo(a), NodeNo(b)),
+        0x33 => Node::BinderCell(slot_in(a), lower(b), NodeNo(c)),
         _ => Node::ListEnd,
     }
 }

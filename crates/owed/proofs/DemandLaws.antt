@@ -115,72 +115,72 @@ plain-demanded asked (cond.Tp n s) ties e = absurd (true≢false (sym e))
 plain-demanded asked (cond.Opaque n k y) ties e = absurd (true≢false (sym e))
 
 -- where the walk goes on below a condition: what is found there, with these names tied at the first place and at the second
-module _ (ties : Set) (bytes : List ℕ) where
+module _ (ties : Set) (columns : List ℕ) where
   abbrev pub goes-on : (first second : Set) → Bool → Below → List Finding
   goes-on first second asked below.Nothing = []
-  goes-on first second asked (below.Condition b) = demanded asked (condition (condition-of bytes (b .0))) first
-  goes-on first second asked (below.Conditions l r) = demanded true (condition (condition-of bytes (l .0))) first ++ demanded true (condition (condition-of bytes (r .0))) second
-  goes-on first second asked (below.Operands l r) = demanded true (operand (term-of bytes (l .0))) ties ++ demanded true (operand (term-of bytes (r .0))) ties
+  goes-on first second asked (below.Condition b) = demanded asked (condition (condition-of columns (b .0))) first
+  goes-on first second asked (below.Conditions l r) = demanded true (condition (condition-of columns (l .0))) first ++ demanded true (condition (condition-of columns (r .0))) second
+  goes-on first second asked (below.Operands l r) = demanded true (operand (term-of columns (l .0))) ties ++ demanded true (operand (term-of columns (r .0))) ties
 
-  by-kind : (n : NodeNo) (m : Node) → let c = as-condition (planted (tree-of bytes) n m) in
+  by-kind : (n : NodeNo) (m : Node) → let c = as-condition (planted (tree-of columns) n m) in
       below-it c ties ≡ goes-on (place-below 0 c ties .names) (place-below 1 c ties .names) (place-below 0 c ties .asked) (entered-below m)
   unfolding below-it demand-below place-below gather
   by-kind n =
-      entered-cases (tree-of bytes) n
+      entered-cases (tree-of columns) n
       (λ s c. below-it c ties ≡ goes-on (place-below 0 c ties .names) (place-below 1 c ties .names) (place-below 0 c ties .asked) s)
       (λ l r. two _ _ refl refl) (λ l r. two _ _ refl refl) (λ b. one _ _ refl) (λ k b w. one _ _ refl) (λ l r w. two _ _ refl refl) (λ s y b. one _ _ refl)
       (λ o l r. two _ _ refl refl) (λ a l. refl) (λ b l. one _ _ refl) (λ s. refl) (λ k y. refl) refl
 
-module _ (ties : Set) {bytes starts : List ℕ} {i : ℕ} where
+module _ (ties : Set) {columns : List ℕ} {i : ℕ} where
   -- ---- below a condition
 
-  in-below : {m : Node} → Arm bytes starts i m → below-it (condition-of bytes i) ties ≡ below-it (as-condition (planted (tree-of bytes) (node-no i) m)) ties
+  in-below : {m : Node} → Arm columns i m → below-it (condition-of columns i) ties ≡ below-it (as-condition (planted (tree-of columns) (node-no i) m)) ties
   in-below a = ap (λ (t : Tree). below-it (as-condition t) ties) (a .tree)
 
-  at-place : {A : Type 0} (f : Place → A) (k : ℕ) {m : Node} → Arm bytes starts i m
-      → f (place-below k (condition-of bytes i) ties) ≡ f (place-below k (as-condition (planted (tree-of bytes) (node-no i) m)) ties)
+  at-place : {A : Type 0} (f : Place → A) (k : ℕ) {m : Node} → Arm columns i m
+      → f (place-below k (condition-of columns i) ties) ≡ f (place-below k (as-condition (planted (tree-of columns) (node-no i) m)) ties)
   at-place f k a = ap (λ (t : Tree). f (place-below k (as-condition t) ties)) (a .tree)
 
-  named-at : (k : ℕ) {m : Node} {s : Set} → Arm bytes starts i m → s ≡ place-below k (condition-of bytes i) ties .names → s ≡ place-below k (as-condition (planted (tree-of bytes) (node-no i) m)) ties .names
+  named-at : (k : ℕ) {m : Node} {s : Set} → Arm columns i m → s ≡ place-below k (condition-of columns i) ties .names → s ≡ place-below k (as-condition (planted (tree-of columns) (node-no i) m)) ties .names
   named-at k a e = e ∙ at-place (λ (p : Place). p .names) k a
 
-  pub below-entered : {m : Node} {s : Below} {first second : Set} {asked : Bool} → Arm bytes starts i m → s ≡ entered-below m
-      → first ≡ place-below 0 (condition-of bytes i) ties .names → second ≡ place-below 1 (condition-of bytes i) ties .names
-      → asked ≡ place-below 0 (condition-of bytes i) ties .asked → below-it (condition-of bytes i) ties ≡ goes-on ties bytes first second asked s
-  below-entered a e f g h = in-below a ∙ by-kind ties bytes _ _ ∙ sym (rw (e, named-at 0 a f, named-at 1 a g, h ∙ at-place (λ (p : Place). p .asked) 0 a))
+  pub below-entered : {m : Node} {s : Below} {first second : Set} {asked : Bool} → Arm columns i m → s ≡ entered-below m
+      → first ≡ place-below 0 (condition-of columns i) ties .names → second ≡ place-below 1 (condition-of columns i) ties .names
+      → asked ≡ place-below 0 (condition-of columns i) ties .asked → below-it (condition-of columns i) ties ≡ goes-on ties columns first second asked s
+  below-entered a e f g h = in-below a ∙ by-kind ties columns _ _ ∙ sym (rw (e, named-at 0 a f, named-at 1 a g, h ∙ at-place (λ (p : Place). p .asked) 0 a))
 
   -- what is tied below
-  pub first-since : {given grown : Set} {l r : NodeNo} {w : ℕ} → Arm bytes starts i (node.Since l r w) → given ≡ restricted (condition-of bytes (r .0))
-      → grown ≡ ties ∪ given → grown ≡ place-below 0 (condition-of bytes i) ties .names
+  pub first-since : {given grown : Set} {l r : NodeNo} {w : ℕ} → Arm columns i (node.Since l r w) → given ≡ restricted (condition-of columns (r .0))
+      → grown ≡ ties ∪ given → grown ≡ place-below 0 (condition-of columns i) ties .names
   unfolding planted as-condition demand-below place-below
   first-since a e g = g ∙ ap₂ _∪_ refl e ∙ sym (at-place (λ (p : Place). p .names) 0 a)
 
-  pub first-exists : {inner : Set} {s : Slot} {y : ℕ} {b : NodeNo} → Arm bytes starts i (node.Exists s y b) → inner ≡ ties ∖ named s → inner ≡ place-below 0 (condition-of bytes i) ties .names
+  pub first-exists : {inner : Set} {s : Slot} {y : ℕ} {b : NodeNo} → Arm columns i (node.Exists s y b) → inner ≡ ties ∖ named s → inner ≡ place-below 0 (condition-of columns i) ties .names
   unfolding planted as-condition demand-below place-below
   first-exists a e = e ∙ sym (at-place (λ (p : Place). p .names) 0 a)
 
-  pub second-and : {given grown : Set} {l r : NodeNo} → Arm bytes starts i (node.And l r) → given ≡ restricted (condition-of bytes (l .0)) → grown ≡ ties ∪ given
-      → grown ≡ place-below 1 (condition-of bytes i) ties .names
+  pub second-and : {given grown : Set} {l r : NodeNo} → Arm columns i (node.And l r) → given ≡ restricted (condition-of columns (l .0)) → grown ≡ ties ∪ given
+      → grown ≡ place-below 1 (condition-of columns i) ties .names
   unfolding planted as-condition demand-below place-below
   second-and a e g = g ∙ ap₂ _∪_ refl e ∙ sym (at-place (λ (p : Place). p .names) 1 a)
 
   -- whether the first part is asked, as the node says
-  pub first-is-asked : {asked : Bool} {m : Node} → Arm bytes starts i m → FirstAsked m asked → asked ≡ place-below 0 (condition-of bytes i) ties .asked
+  pub first-is-asked : {asked : Bool} {m : Node} → Arm columns i m → FirstAsked m asked → asked ≡ place-below 0 (condition-of columns i) ties .asked
   first-is-asked a says = says _ _ _ ∙ sym (at-place (λ (p : Place). p .asked) 0 a)
 
   -- ---- from an operand on
 
-  in-operand : {m : Node} → Arm bytes starts i m
-      → demanded true (operand (term-of bytes i)) ties ≡ demanded true (operand (as-term (planted (tree-of bytes) (node-no i) m))) ties
+  in-operand : {m : Node} → Arm columns i m
+      → demanded true (operand (term-of columns i)) ties ≡ demanded true (operand (as-term (planted (tree-of columns) (node-no i) m))) ties
   in-operand a = ap (λ (t : Tree). demanded true (operand (as-term t)) ties) (a .tree)
 
-  pub operand-arith : {o : ℕ} {l r : NodeNo} → Arm bytes starts i (node.Arith o l r)
-      → demanded true (operand (term-of bytes i)) ties ≡ demanded true (operand (term-of bytes (l .0))) ties ++ demanded true (operand (term-of bytes (r .0))) ties
+  pub operand-arith : {o : ℕ} {l r : NodeNo} → Arm columns i (node.Arith o l r)
+      → demanded true (operand (term-of columns i)) ties ≡ demanded true (operand (term-of columns (l .0))) ties ++ demanded true (operand (term-of columns (r .0))) ties
   unfolding planted as-term demand-below
   operand-arith a = in-operand a ∙ at-operand _ ties ∙ two _ _ refl refl
 
-  pub operand-aggregate : {inner : Set} {l b : NodeNo} {m : Node} → Aggregate l b m → Arm bytes starts i m → inner ≡ ties ∖ binder-names (binders-of bytes (l .0))
-      → demanded true (operand (term-of bytes i)) ties ≡ demanded true (condition (condition-of bytes (b .0))) inner
+  pub operand-aggregate : {inner : Set} {l b : NodeNo} {m : Node} → Aggregate l b m → Arm columns i m → inner ≡ ties ∖ binder-names (binders-of columns (l .0))
+      → demanded true (operand (term-of columns i)) ties ≡ demanded true (condition (condition-of columns (b .0))) inner
   unfolding planted as-term demand-below
   operand-aggregate sum a e = in-operand a ∙ at-operand _ ties ∙ one _ _ e
   operand-aggregate count a e = in-operand a ∙ at-operand _ ties ∙ one _ _ e
@@ -213,23 +213,23 @@ module _ (n : NodeNo) (left right ties : Set) where
   unfolding owed-compared
   compared-neither d e = rw (e, d)
 
-module _ (ties : Set) {bytes starts : List ℕ} {i : ℕ} where
-  in-owed : {m : Node} → Arm bytes starts i m → owed (condition-of bytes i) ties ≡ owed (as-condition (planted (tree-of bytes) (node-no i) m)) ties
+module _ (ties : Set) {columns : List ℕ} {i : ℕ} where
+  in-owed : {m : Node} → Arm columns i m → owed (condition-of columns i) ties ≡ owed (as-condition (planted (tree-of columns) (node-no i) m)) ties
   in-owed a = ap (λ (t : Tree). owed (as-condition t) ties) (a .tree)
 
-  pub owed-comparison : {side : Tied} {left right : Set} {o : ℕ} {l r : NodeNo} → Arm bytes starts i (node.Comparison o l r)
-      → side ≡ tied o (term-of bytes (l .0)) (term-of bytes (r .0)) → left ≡ term-free (term-of bytes (l .0)) → right ≡ term-free (term-of bytes (r .0))
-      → owed (condition-of bytes i) ties ≡ owed-compared (node-no i) side left right ties
+  pub owed-comparison : {side : Tied} {left right : Set} {o : ℕ} {l r : NodeNo} → Arm columns i (node.Comparison o l r)
+      → side ≡ tied o (term-of columns (l .0)) (term-of columns (r .0)) → left ≡ term-free (term-of columns (l .0)) → right ≡ term-free (term-of columns (r .0))
+      → owed (condition-of columns i) ties ≡ owed-compared (node-no i) side left right ties
   unfolding planted as-condition owed demand-broken
   owed-comparison a s p q = in-owed a ∙ compared _ _ _ _ _ s p q
 
-  pub owed-not : {needs : Set} {b : NodeNo} → Arm bytes starts i (node.Not b) → needs ≡ free (condition-of bytes (b .0))
-      → owed (condition-of bytes i) ties ≡ findings (for-names 31 (node-no i) (needs ∖ ties))
+  pub owed-not : {needs : Set} {b : NodeNo} → Arm columns i (node.Not b) → needs ≡ free (condition-of columns (b .0))
+      → owed (condition-of columns i) ties ≡ findings (for-names 31 (node-no i) (needs ∖ ties))
   unfolding planted as-condition owed demand-broken gather
   owed-not a e = in-owed a ∙ append-nil _ ∙ ap (λ (z : Set). findings (for-names 31 (node-no i) (z ∖ ties))) (sym e)
 
-  pub owed-since : {needs known : Set} {l r : NodeNo} {w : ℕ} → Arm bytes starts i (node.Since l r w) → needs ≡ free (condition-of bytes (l .0))
-      → known ≡ ties ∪ restricted (condition-of bytes (r .0)) → owed (condition-of bytes i) ties ≡ findings (for-names 32 (node-no i) (needs ∖ known))
+  pub owed-since : {needs known : Set} {l r : NodeNo} {w : ℕ} → Arm columns i (node.Since l r w) → needs ≡ free (condition-of columns (l .0))
+      → known ≡ ties ∪ restricted (condition-of columns (r .0)) → owed (condition-of columns i) ties ≡ findings (for-names 32 (node-no i) (needs ∖ known))
   unfolding planted as-condition owed demand-broken gather
   owed-since a e k = in-owed a ∙ append-nil _ ∙ ap₂ (λ (x y : Set). findings (for-names 32 (node-no i) (x ∖ y))) (sym e) (sym k)
 
@@ -247,8 +247,8 @@ no-demand ties t n =
     (λ l r w h. absurd (miss no-demand-kinds 5 tt h)) (λ s y b h. refl) (λ o l r h. absurd (miss no-demand-kinds 7 tt h)) (λ a l h. refl)
     (λ b l h. refl) (λ s h. refl) (λ y h. refl) (λ y h. refl) (λ m e h. refl)
 
-pub owed-none : (ties : Set) {bytes starts : List ℕ} {i : ℕ} {m : Node} → Arm bytes starts i m → OneOf no-demand-kinds (tagOf the-type m)
-    → owed (condition-of bytes i) ties ≡ []
+pub owed-none : (ties : Set) {columns : List ℕ} {i : ℕ} {m : Node} → Arm columns i m → OneOf no-demand-kinds (tagOf the-type m)
+    → owed (condition-of columns i) ties ≡ []
 owed-none ties a h = in-owed ties a ∙ no-demand ties _ _ _ h
 
 -- neither arithmetic nor an aggregate with a body
@@ -264,8 +264,8 @@ no-body ties t n =
     (λ s l b h. absurd (miss no-body-kinds 22 tt h)) (λ l b h. absurd (miss no-body-kinds 23 tt h)) (λ y h. at-operand _ ties)
     (λ m e h. at-operand _ ties)
 
-pub operand-none : (ties : Set) {bytes starts : List ℕ} {i : ℕ} {m : Node} → Arm bytes starts i m → OneOf no-body-kinds (tagOf the-type m)
-    → demanded true (operand (term-of bytes i)) ties ≡ []
+pub operand-none : (ties : Set) {columns : List ℕ} {i : ℕ} {m : Node} → Arm columns i m → OneOf no-body-kinds (tagOf the-type m)
+    → demanded true (operand (term-of columns i)) ties ≡ []
 operand-none ties a h = in-operand ties a ∙ no-body ties _ _ _ h
 
 -- all but Since and Exists
@@ -315,9 +315,9 @@ first-unasked ties t n =
     (λ o l r h. absurd (miss unasked-kinds 7 tt h)) (λ a l h. absurd (miss unasked-kinds 8 tt h)) (λ b l h. refl) (λ s h. absurd (miss unasked-kinds 10 tt h))
     (λ y h. absurd (miss unasked-kinds 11 tt h)) (λ y h. absurd (miss unasked-kinds 12 tt h)) (λ m e h. absurd (no-other unasked-kinds condition-kinds _ refl h e))
 
-module _ (ties : Set) {bytes starts : List ℕ} {i : ℕ} {m : Node} (a : Arm bytes starts i m) where
-  pub first-same : OneOf same-first-kinds (tagOf the-type m) → ties ≡ place-below 0 (condition-of bytes i) ties .names
+module _ (ties : Set) {columns : List ℕ} {i : ℕ} {m : Node} (a : Arm columns i m) where
+  pub first-same : OneOf same-first-kinds (tagOf the-type m) → ties ≡ place-below 0 (condition-of columns i) ties .names
   first-same h = sym (at-place ties (λ (p : Place). p .names) 0 a ∙ same-first ties _ _ _ h)
 
-  pub second-same : OneOf same-second-kinds (tagOf the-type m) → ties ≡ place-below 1 (condition-of bytes i) ties .names
+  pub second-same : OneOf same-second-kinds (tagOf the-type m) → ties ≡ place-below 1 (condition-of columns i) ties .names
   second-same h = sym (at-place ties (λ (p : Place). p .names) 1 a ∙ same-second ties _ _ _ h)

@@ -17,7 +17,7 @@ ghost use Rattle.paper.specs.Record.{pick};
 ghost use Rattle.paper.specs.Sets.{_∖_};
 ghost use Rattle.paper.specs.Places.{for-names, findings};
 ghost use Rattle.names.specs.Words.{mem};
-ghost use Rattle.record.specs.Stored.{contents, Has};
+ghost use Rattle.record.specs.Stored.{held, Has};
 ghost use Rattle.known.specs.Rows.{Noted};
 ghost use Rattle.trees.specs.Trees.{condition-of};
 ghost use Rattle.writes.specs.Written.{Room, Wrote};
@@ -65,8 +65,7 @@ fn check_comparison_demands(
 
 // The entries of a condition itself: 30 to 32 for the names that are not tied.
 fn check_conjunct_demands(
-    bytes: &[u8],
-    starts: &[u16; 512],
+    columns: &[u16; 2049],
     rows: &[[u64; 5]],
     i: NodeNo,
     node: Node,
@@ -74,25 +73,25 @@ fn check_conjunct_demands(
     out: &mut [u32],
     at: usize,
 ) -> usize
-    requires { ⌜ Has (now bytes) (now starts) (i .0) × Noted (now bytes) (now rows) ⌝ }
-    requires { ⌜ node ≡ getD (contents (now bytes) .nodes) (i .0) ListEnd ⌝ }
-    requires { ⌜ Room (owed (condition-of (now bytes) (i .0)) (mem tied)) at ⌝ }
-    ensures { λ r. ⌜ Wrote (owed (condition-of (now (bytes .entry)) (i .0)) (mem tied)) at r (now (out .entry)) (now (out .exit)) ⌝ }
+    requires { ⌜ Has (now columns) (i .0) × Noted (now columns) (now rows) ⌝ }
+    requires { ⌜ node ≡ getD (held (now columns)) (i .0) ListEnd ⌝ }
+    requires { ⌜ Room (owed (condition-of (now columns) (i .0)) (mem tied)) at ⌝ }
+    ensures { λ r. ⌜ Wrote (owed (condition-of (now (columns .entry)) (i .0)) (mem tied)) at r (now (out .entry)) (now (out .exit)) ⌝ }
 {
     match node {
         Node::Comparison(op, l, r) => {
-            let side = eq_restricted_var(bytes, starts, op, l, r);
-            let left = collect_term_var(bytes, rows, l);
-            let right = collect_term_var(bytes, rows, r);
+            let side = eq_restricted_var(columns, op, l, r);
+            let left = collect_term_var(columns, rows, l);
+            let right = collect_term_var(columns, rows, r);
             check_comparison_demands(i, side, left, right, tied, out, at)
         }
         Node::Not(b) => {
-            let needs = collect_free(bytes, rows, b);
+            let needs = collect_free(columns, rows, b);
             reject_unmet_var(i, 31, needs, tied, out, at)
         }
         Node::Since(l, r, _) => {
-            let needs = collect_free(bytes, rows, l);
-            let anchored = collect_range_restricted(bytes, rows, r);
+            let needs = collect_free(columns, rows, l);
+            let anchored = collect_range_restricted(columns, rows, r);
             let known = names::union(tied, anchored);
             reject_unmet_var(i, 32, needs, known, out, at)
         }
@@ -102,8 +101,7 @@ fn check_conjunct_demands(
 
 // The same, if the condition is asked.
 pub fn check_own_demands(
-    bytes: &[u8],
-    starts: &[u16; 512],
+    columns: &[u16; 2049],
     rows: &[[u64; 5]],
     i: NodeNo,
     node: Node,
@@ -112,33 +110,32 @@ pub fn check_own_demands(
     out: &mut [u32],
     at: usize,
 ) -> usize
-    requires { ⌜ Has (now bytes) (now starts) (i .0) × Noted (now bytes) (now rows) ⌝ }
-    requires { ⌜ node ≡ getD (contents (now bytes) .nodes) (i .0) ListEnd ⌝ }
-    requires { ⌜ Room (pick asked (owed (condition-of (now bytes) (i .0)) (mem tied)) []) at ⌝ }
-    ensures { λ r. ⌜ Wrote (pick asked (owed (condition-of (now (bytes .entry)) (i .0)) (mem tied)) []) at r (now (out .entry)) (now (out .exit)) ⌝ }
+    requires { ⌜ Has (now columns) (i .0) × Noted (now columns) (now rows) ⌝ }
+    requires { ⌜ node ≡ getD (held (now columns)) (i .0) ListEnd ⌝ }
+    requires { ⌜ Room (pick asked (owed (condition-of (now columns) (i .0)) (mem tied)) []) at ⌝ }
+    ensures { λ r. ⌜ Wrote (pick asked (owed (condition-of (now (columns .entry)) (i .0)) (mem tied)) []) at r (now (out .entry)) (now (out .exit)) ⌝ }
 {
     if asked {
-        return check_conjunct_demands(bytes, starts, rows, i, node, tied, out, at);
+        return check_conjunct_demands(columns, rows, i, node, tied, out, at);
     }
     at
 }
 
 // What is tied at the first part of a condition: on the left of Since also what the right restricts, below a binder not its name.
 pub fn tied_first(
-    bytes: &[u8],
-    starts: &[u16; 512],
+    columns: &[u16; 2049],
     rows: &[[u64; 5]],
     i: NodeNo,
     node: Node,
     tied: Names,
 ) -> Names
-    requires { ⌜ Has (now bytes) (now starts) (i .0) × Noted (now bytes) (now rows) ⌝ }
-    requires { ⌜ node ≡ getD (contents (now bytes) .nodes) (i .0) ListEnd ⌝ }
-    ensures { λ r. ⌜ mem r ≡ place-below 0 (condition-of (now (bytes .entry)) (i .0)) (mem tied) .names ⌝ }
+    requires { ⌜ Has (now columns) (i .0) × Noted (now columns) (now rows) ⌝ }
+    requires { ⌜ node ≡ getD (held (now columns)) (i .0) ListEnd ⌝ }
+    ensures { λ r. ⌜ mem r ≡ place-below 0 (condition-of (now (columns .entry)) (i .0)) (mem tied) .names ⌝ }
 {
     match node {
         Node::Since(_, r, _) => {
-            let given = collect_range_restricted(bytes, rows, r);
+            let given = collect_range_restricted(columns, rows, r);
             names::union(tied, given)
         }
         Node::Exists(slot, _, _) => without_slot(tied, slot),
@@ -148,20 +145,19 @@ pub fn tied_first(
 
 // What is tied at the second part: on the right of And also what the left restricts.
 pub fn tied_second(
-    bytes: &[u8],
-    starts: &[u16; 512],
+    columns: &[u16; 2049],
     rows: &[[u64; 5]],
     i: NodeNo,
     node: Node,
     tied: Names,
 ) -> Names
-    requires { ⌜ Has (now bytes) (now starts) (i .0) × Noted (now bytes) (now rows) ⌝ }
-    requires { ⌜ node ≡ getD (contents (now bytes) .nodes) (i .0) ListEnd ⌝ }
-    ensures { λ r. ⌜ mem r ≡ place-below 1 (condition-of (now (bytes .entry)) (i .0)) (mem tied) .names ⌝ }
+    requires { ⌜ Has (now columns) (i .0) × Noted (now columns) (now rows) ⌝ }
+    requires { ⌜ node ≡ getD (held (now columns)) (i .0) ListEnd ⌝ }
+    ensures { λ r. ⌜ mem r ≡ place-below 1 (condition-of (now (columns .entry)) (i .0)) (mem tied) .names ⌝ }
 {
     match node {
         Node::And(l, _) => {
-            let given = collect_range_restricted(bytes, rows, l);
+            let given = collect_range_restricted(columns, rows, l);
             names::union(tied, given)
         }
         _ => tied,

@@ -55,23 +55,23 @@ module _ (t : ℕ → Tree) (n : NodeNo) (P : Below → cond → Type 0)
       (λ y. other) (λ k. other) (λ k. other) (λ l. other) (λ o l r. other) (λ s l b. other) (λ l b. other) (λ y. other) other (λ f x l. other) (λ x l. other)
       (λ s y l. other)
 
-module _ (bytes starts : List ℕ) (i : ℕ) where
+module _ (columns : List ℕ) (i : ℕ) where
   -- what a walk knows of where it goes on
   abbrev Entered : Below → Type 0
   Entered Nothing = Unit
-  Entered (Condition b) = Child bytes starts i condition (b .0)
-  Entered (Conditions l r) = Child bytes starts i condition (l .0) × Child bytes starts i condition (r .0)
-  Entered (Operands l r) = Child bytes starts i term (l .0) × Child bytes starts i term (r .0)
+  Entered (Condition b) = Child columns i condition (b .0)
+  Entered (Conditions l r) = Child columns i condition (l .0) × Child columns i condition (r .0)
+  Entered (Operands l r) = Child columns i term (l .0) × Child columns i term (r .0)
 
-  children : (m : Node) → Arm bytes starts i m → Entered (entered-below m)
+  children : (m : Node) → Arm columns i m → Entered (entered-below m)
   unfolding entered-below
   children =
-      by-kind (λ m. Arm bytes starts i m → Entered (entered-below m))
+      by-kind (λ m. Arm columns i m → Entered (entered-below m))
       (λ l r a. (a .children .0, a .children .1 .0)) (λ l r a. (a .children .0, a .children .1 .0)) (λ b a. a .children .0) (λ b w a. a .children .0)
       (λ b w a. a .children .0) (λ l r w a. (a .children .0, a .children .1 .0)) (λ s y b a. a .children .0)
       (λ o l r a. (a .children .0, a .children .1 .0)) (λ q l a. tt) (λ b l a. a .children .0) (λ s a. tt) (λ y a. tt) (λ y a. tt) (λ x a. tt) (λ a. tt)
       (λ y a. tt) (λ y a. tt) (λ y a. tt) (λ k a. tt) (λ k a. tt) (λ l a. tt) (λ o l r a. tt) (λ s l b a. tt) (λ l b a. tt) (λ y a. tt) (λ a. tt)
       (λ f x l a. tt) (λ x l a. tt) (λ s y l a. tt)
 
-pub entered : {bytes starts : List ℕ} {i : ℕ} {m : Node} {s : Below} → s ≡ entered-below m → Arm bytes starts i m → Entered bytes starts i s
-entered e a = subst (Entered _ _ _) (sym e) (children _ _ _ _ a)
+pub entered : {columns : List ℕ} {i : ℕ} {m : Node} {s : Below} → s ≡ entered-below m → Arm columns i m → Entered columns i s
+entered e a = subst (Entered _ _) (sym e) (children _ _ _ a)

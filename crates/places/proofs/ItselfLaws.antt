@@ -37,26 +37,26 @@ silent words t n =
     (λ a l h. absurd (miss silent-kinds 8 tt h)) (λ b l h. refl) (λ s h. absurd (miss silent-kinds 10 tt h)) (λ y h. refl) (λ y h. refl)
     (λ m e h. no-argument-nested _)
 
-module _ (words : Set) {bytes starts : List ℕ} {i : ℕ} where
-  in-itself : {m : Node} → Arm bytes starts i m → at-itself words (condition-of bytes i) ≡ at-itself words (as-condition (planted (tree-of bytes) (node-no i) m))
+module _ (words : Set) {columns : List ℕ} {i : ℕ} where
+  in-itself : {m : Node} → Arm columns i m → at-itself words (condition-of columns i) ≡ at-itself words (as-condition (planted (tree-of columns) (node-no i) m))
   in-itself a = ap (λ (t : Tree). at-itself words (as-condition t)) (a .tree)
 
-  pub itself-exists : {s : Slot} {y : ℕ} {b : NodeNo} → Arm bytes starts i (node.Exists s y b)
-      → at-itself words (condition-of bytes i)
+  pub itself-exists : {s : Slot} {y : ℕ} {b : NodeNo} → Arm columns i (node.Exists s y b)
+      → at-itself words (condition-of columns i)
       ≡ findings (for-names 22 (node-no i) (named s ∩ words))
-      ++ findings (for-names 23 (node-no i) (pick (holds-sigil (condition-of bytes (b .0))) none (named s ∖ restricted (condition-of bytes (b .0)))))
+      ++ findings (for-names 23 (node-no i) (pick (holds-sigil (condition-of columns (b .0))) none (named s ∖ restricted (condition-of columns (b .0)))))
   unfolding planted as-condition at-itself in-arguments scope-broken gather
   itself-exists {s = s} a = in-itself a ∙ append-nil _ ∙ ap (λ (z : List Finding). findings (for-names 22 (node-no i) (named s ∩ words)) ++ z) (append-nil _)
 
-  pub itself-predicate : {q : ℕ} {l : NodeNo} → Arm bytes starts i (node.Predicate q l) → at-itself words (condition-of bytes i) ≡ nested-in (tree-of bytes (l .0))
+  pub itself-predicate : {q : ℕ} {l : NodeNo} → Arm columns i (node.Predicate q l) → at-itself words (condition-of columns i) ≡ nested-in (tree-of columns (l .0))
   unfolding planted as-condition at-itself in-arguments scope-broken gather
   itself-predicate a = in-itself a ∙ sym (at-arguments nested nested-arguments nested-items [] no-argument-nested _ (a .children .0 .fits))
 
-  pub itself-tp : {s : Slot} → Arm bytes starts i (node.Tp s) → at-itself words (condition-of bytes i) ≡ findings (for-names 22 (node-no i) (named s ∩ words))
+  pub itself-tp : {s : Slot} → Arm columns i (node.Tp s) → at-itself words (condition-of columns i) ≡ findings (for-names 22 (node-no i) (named s ∩ words))
   unfolding planted as-condition at-itself in-arguments scope-broken gather
   itself-tp a = in-itself a ∙ append-nil _ ∙ append-nil _
 
-  pub itself-none : {m : Node} → Arm bytes starts i m → OneOf silent-kinds (tagOf the-type m) → at-itself words (condition-of bytes i) ≡ []
+  pub itself-none : {m : Node} → Arm columns i m → OneOf silent-kinds (tagOf the-type m) → at-itself words (condition-of columns i) ≡ []
   itself-none a h = in-itself a ∙ silent words _ _ _ h
 
 -- ---- what is in scope below
@@ -80,6 +80,6 @@ same-scope scope t n =
 pub first-same : (scope : Set) (m : Node) → OneOf unbound-kinds (tagOf the-type m) → ScopeFirst m scope scope
 first-same scope m h before n = sym (same-scope scope before n m h)
 
-pub first-in-scope : (scope : Set) {bytes starts : List ℕ} {i : ℕ} {inner : Set} {m : Node} → Arm bytes starts i m → ScopeFirst m scope inner
-    → inner ≡ scope-first (condition-of bytes i) scope
+pub first-in-scope : (scope : Set) {columns : List ℕ} {i : ℕ} {inner : Set} {m : Node} → Arm columns i m → ScopeFirst m scope inner
+    → inner ≡ scope-first (condition-of columns i) scope
 first-in-scope scope a says = says _ _ ∙ sym (ap (λ (t : Tree). scope-first (as-condition t) scope) (a .tree))

@@ -30,20 +30,20 @@ pub no-item-nested : (n : NodeNo) → nested-items (no-item n) ≡ []
 unfolding nested
 no-item-nested n = refl
 
-module _ {bytes starts : List ℕ} {i : ℕ} where
-  pub in-nested : {m : Node} → Arm bytes starts i m → nested-in (tree-of bytes i) ≡ nested-in (planted (tree-of bytes) (node-no i) m)
+module _ {columns : List ℕ} {i : ℕ} where
+  pub in-nested : {m : Node} → Arm columns i m → nested-in (tree-of columns i) ≡ nested-in (planted (tree-of columns) (node-no i) m)
   in-nested a = ap nested-in (a .tree)
 
-  pub nested-arith : {o : ℕ} {l r : NodeNo} → Arm bytes starts i (node.Arith o l r) → nested-in (tree-of bytes i) ≡ findings (itself 21 (node-no i))
+  pub nested-arith : {o : ℕ} {l r : NodeNo} → Arm columns i (node.Arith o l r) → nested-in (tree-of columns i) ≡ findings (itself 21 (node-no i))
   unfolding planted in-terms nested
   nested-arith a = in-nested a
 
-  pub nested-array : {l : NodeNo} → Arm bytes starts i (node.Array l) → nested-in (tree-of bytes i) ≡ nested-in (tree-of bytes (l .0))
+  pub nested-array : {l : NodeNo} → Arm columns i (node.Array l) → nested-in (tree-of columns i) ≡ nested-in (tree-of columns (l .0))
   unfolding planted in-terms nested
   nested-array a = in-nested a ∙ sym (at-items nested nested-arguments nested-items [] no-item-nested _ (a .children .0 .fits))
 
-  pub nested-row : {l r : NodeNo} {m : Node} → Row l r m → Arm bytes starts i m
-      → nested-in (tree-of bytes i) ≡ nested-in (tree-of bytes (l .0)) ++ nested-in (tree-of bytes (r .0))
+  pub nested-row : {l r : NodeNo} {m : Node} → Row l r m → Arm columns i m
+      → nested-in (tree-of columns i) ≡ nested-in (tree-of columns (l .0)) ++ nested-in (tree-of columns (r .0))
   unfolding planted in-terms nested
   nested-row argument a =
       in-nested a

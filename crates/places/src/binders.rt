@@ -16,7 +16,7 @@ ghost use Rattle.paper.specs.Sets.{none, _∩_, _∖_};
 ghost use Rattle.paper.specs.FreeAndRestricted.{named, restricted, holds-sigil};
 ghost use Rattle.paper.specs.Places.{for-names, findings};
 ghost use Rattle.names.specs.Words.{mem};
-ghost use Rattle.record.specs.Stored.{contents};
+ghost use Rattle.record.specs.Stored.{held};
 ghost use Rattle.known.specs.Rows.{Noted};
 ghost use Rattle.trees.specs.Trees.{tree-of, condition-of, is-condition};
 ghost use Rattle.trees.specs.Terms.{Tabled};
@@ -40,21 +40,21 @@ pub fn reject_reserved_binder(
 }
 
 // The slot's name, unless the body restricts it or holds a sigil.
-fn unsafe_name(bytes: &[u8], rows: &[[u64; 5]], slot: Slot, body: NodeNo) -> Names
-    requires { ⌜ Tabled slot × (body .0 < length (contents (now bytes) .nodes)) × Noted (now bytes) (now rows) × (is-condition (tree-of (now bytes) (body .0)) ≡ true) ⌝ }
-    ensures { λ r. ⌜ mem r ≡ pick (holds-sigil (condition-of (now (bytes .entry)) (body .0))) none (named slot ∖ restricted (condition-of (now (bytes .entry)) (body .0))) ⌝ }
+fn unsafe_name(columns: &[u16; 2049], rows: &[[u64; 5]], slot: Slot, body: NodeNo) -> Names
+    requires { ⌜ Tabled slot × (body .0 < length (held (now columns))) × Noted (now columns) (now rows) × (is-condition (tree-of (now columns) (body .0)) ≡ true) ⌝ }
+    ensures { λ r. ⌜ mem r ≡ pick (holds-sigil (condition-of (now (columns .entry)) (body .0))) none (named slot ∖ restricted (condition-of (now (columns .entry)) (body .0))) ⌝ }
 {
-    if body_has_sigil(bytes, rows, body) {
+    if body_has_sigil(columns, rows, body) {
         return names::empty();
     }
     let own = slot_name(slot);
-    let tied = collect_range_restricted(bytes, rows, body);
+    let tied = collect_range_restricted(columns, rows, body);
     names::minus(own, tied)
 }
 
 // 22 and then 23 at the binder of an exists: its name is reserved, or its body does not restrict it.
 pub fn check_exists_binder(
-    bytes: &[u8],
+    columns: &[u16; 2049],
     rows: &[[u64; 5]],
     n: NodeNo,
     slot: Slot,
@@ -63,11 +63,11 @@ pub fn check_exists_binder(
     out: &mut [u32],
     at: usize,
 ) -> usize
-    requires { ⌜ Tabled slot × (body .0 < length (contents (now bytes) .nodes)) × Noted (now bytes) (now rows) × (is-condition (tree-of (now bytes) (body .0)) ≡ true) ⌝ }
-    requires { ⌜ Room (findings (for-names 22 n (named slot ∩ mem words)) ++ findings (for-names 23 n (pick (holds-sigil (condition-of (now bytes) (body .0))) none (named slot ∖ restricted (condition-of (now bytes) (body .0)))))) at ⌝ }
-    ensures { λ r. ⌜ Wrote (findings (for-names 22 n (named slot ∩ mem words)) ++ findings (for-names 23 n (pick (holds-sigil (condition-of (now (bytes .entry)) (body .0))) none (named slot ∖ restricted (condition-of (now (bytes .entry)) (body .0)))))) at r (now (out .entry)) (now (out .exit)) ⌝ }
+    requires { ⌜ Tabled slot × (body .0 < length (held (now columns))) × Noted (now columns) (now rows) × (is-condition (tree-of (now columns) (body .0)) ≡ true) ⌝ }
+    requires { ⌜ Room (findings (for-names 22 n (named slot ∩ mem words)) ++ findings (for-names 23 n (pick (holds-sigil (condition-of (now columns) (body .0))) none (named slot ∖ restricted (condition-of (now columns) (body .0)))))) at ⌝ }
+    ensures { λ r. ⌜ Wrote (findings (for-names 22 n (named slot ∩ mem words)) ++ findings (for-names 23 n (pick (holds-sigil (condition-of (now (columns .entry)) (body .0))) none (named slot ∖ restricted (condition-of (now (columns .entry)) (body .0)))))) at r (now (out .entry)) (now (out .exit)) ⌝ }
 {
     let p = reject_reserved_binder(n, slot, words, out, at);
-    let loose = unsafe_name(bytes, rows, slot, body);
+    let loose = unsafe_name(columns, rows, slot, body);
     emit(out, p, 23, n, loose)
 }

@@ -13,7 +13,7 @@ ghost use Rattle.paper.specs.declared.Node.the-variants.{ListEnd};
 ghost use Rattle.paper.specs.Shape.{names-in};
 ghost use Rattle.paper.proofs.Walks.{All};
 ghost use Rattle.names.specs.Words.{mem};
-ghost use Rattle.record.specs.Stored.{contents, Has};
+ghost use Rattle.record.specs.Stored.{held, Has};
 ghost use Rattle.known.specs.Rows.{Noted};
 ghost use Rattle.trees.specs.Trees.{condition-of};
 ghost use Rattle.writes.specs.Written.{Room, Wrote};
@@ -21,8 +21,7 @@ ghost use Rattle.places.specs.Itself.{at-itself, ScopeFirst};
 
 // 22 and 23 at an exists, 22 at a tp, 20 and 21 in the arguments of a predicate.
 pub fn check_itself(
-    bytes: &[u8],
-    starts: &[u16; 512],
+    columns: &[u16; 2049],
     rows: &[[u64; 5]],
     i: NodeNo,
     node: Node,
@@ -30,14 +29,14 @@ pub fn check_itself(
     out: &mut [u32],
     at: usize,
 ) -> usize
-    requires { ⌜ Has (now bytes) (now starts) (i .0) × Noted (now bytes) (now rows) ⌝ }
-    requires { ⌜ node ≡ getD (contents (now bytes) .nodes) (i .0) ListEnd ⌝ }
-    requires { ⌜ Room (at-itself (mem words) (condition-of (now bytes) (i .0))) at ⌝ }
-    ensures { λ r. ⌜ Wrote (at-itself (mem words) (condition-of (now (bytes .entry)) (i .0))) at r (now (out .entry)) (now (out .exit)) ⌝ }
+    requires { ⌜ Has (now columns) (i .0) × Noted (now columns) (now rows) ⌝ }
+    requires { ⌜ node ≡ getD (held (now columns)) (i .0) ListEnd ⌝ }
+    requires { ⌜ Room (at-itself (mem words) (condition-of (now columns) (i .0))) at ⌝ }
+    ensures { λ r. ⌜ Wrote (at-itself (mem words) (condition-of (now (columns .entry)) (i .0))) at r (now (out .entry)) (now (out .exit)) ⌝ }
 {
     match node {
-        Node::Exists(slot, _, b) => check_exists_binder(bytes, rows, i, slot, b, words, out, at),
-        Node::Predicate(_, arguments) => reject_nested_agg(bytes, starts, arguments, out, at),
+        Node::Exists(slot, _, b) => check_exists_binder(columns, rows, i, slot, b, words, out, at),
+        Node::Predicate(_, arguments) => reject_nested_agg(columns, arguments, out, at),
         Node::Tp(slot) => reject_reserved_binder(i, slot, words, out, at),
         _ => at,
     }

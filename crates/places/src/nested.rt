@@ -25,25 +25,19 @@ fn reject(n: NodeNo, rule: u8, out: &mut [u32], at: usize) -> usize
 }
 
 // Of a term, or of the terms of a list: 20 for an aggregate, 21 for arithmetic, through arrays.
-pub fn reject_nested_agg(
-    bytes: &[u8],
-    starts: &[u16; 512],
-    i: NodeNo,
-    out: &mut [u32],
-    at: usize,
-) -> usize
-    requires { ⌜ Has (now bytes) (now starts) (i .0) ⌝ }
-    requires { ⌜ Room (nested-in (tree-of (now bytes) (i .0))) at ⌝ }
-    ensures { λ r. ⌜ Wrote (nested-in (tree-of (now (bytes .entry)) (i .0))) at r (now (out .entry)) (now (out .exit)) ⌝ }
+pub fn reject_nested_agg(columns: &[u16; 2049], i: NodeNo, out: &mut [u32], at: usize) -> usize
+    requires { ⌜ Has (now columns) (i .0) ⌝ }
+    requires { ⌜ Room (nested-in (tree-of (now columns) (i .0))) at ⌝ }
+    ensures { λ r. ⌜ Wrote (nested-in (tree-of (now (columns .entry)) (i .0))) at r (now (out .entry)) (now (out .exit)) ⌝ }
 {
-    let node = node_at(bytes, starts, i);
+    let node = node_at(columns, i);
     match node {
         Node::Sum(_, _, _) | Node::Count(_, _) | Node::AggregateCall(_) => reject(i, 20, out, at),
         Node::Arith(_, _, _) => reject(i, 21, out, at),
-        Node::Array(items) => reject_nested_agg(bytes, starts, items, out, at),
+        Node::Array(items) => reject_nested_agg(columns, items, out, at),
         Node::ArgumentCell(_, t, rest) | Node::ItemCell(t, rest) => {
-            let p = reject_nested_agg(bytes, starts, t, out, at);
-            reject_nested_agg(bytes, starts, rest, out, p)
+            let p = reject_nested_agg(columns, t, out, at);
+            reject_nested_agg(columns, rest, out, p)
         }
         _ => at,
     }

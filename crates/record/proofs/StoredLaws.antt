@@ -1,18 +1,23 @@
--- A node and a name by their numbers are the definitions' where an arena holds the bytes. Assumes nothing.
-use mathlib.Core.Path.{_≡_, refl, sym, ap, _∙_}
+-- A node and a name by their numbers are the definitions' where an arena holds the bytes, and so are the nodes of columns that were filled from it.
+-- Assumes nothing.
+use mathlib.Core.Path.{_≡_, refl, sym, ap, _∙_, subst}
 use mathlib.Core.List.{List, []}
 use Prim.Native.Nat.{ℕ, _+_, _*_, _<_, _≤_}
 use native.Mathlib.Omega.{arith}
 use lib.ListN.{length, getD, take, drop, List·getD-eq-default}
+use Rattle.paper.specs.declared.Node.{Node}
 use Rattle.paper.specs.declared.Node.the-variants.{ListEnd}
 use Rattle.paper.specs.declared.Verdict.the-variants.{Counts, Refused}
 use Rattle.paper.specs.TurnedAway.{Contents, Outcome, refused, accepted, verdict, read}
 use Rattle.paper.specs.TheList.{trimmed, name-text}
 use Rattle.paper.specs.Questions.{name, name-of}
+use Rattle.paper.proofs.WellFormed.{WellFormed}
 use Rattle.memory.specs.Decoded.{node-from}
 use Rattle.memory.specs.Starts.{start-of}
+use Rattle.memory.specs.Columns.{held, Copies}
+use Rattle.memory.proofs.ColumnLaws.{copied-held}
 use Rattle.record.specs.Arena.{Read}
-use Rattle.record.specs.Stored.{contents-of, contents, Stored}
+use Rattle.record.specs.Stored.{contents-of, contents, Stored, Formed, Has}
 use Rattle.record.specs.declared.reader.Reading.{Reading}
 use Rattle.record.proofs.Lying.{Lies, lies}
 use Rattle.record.proofs.Verdicts.{refused-is, Told, counts-are}
@@ -35,8 +40,8 @@ pub node-stored : (bytes starts : List ℕ) → Stored bytes starts → (i : ℕ
     → node-from bytes (getD starts i 0) ≡ getD (contents bytes .nodes) i ListEnd
 node-stored bytes starts s i h = ap (node-from bytes) (s .starts-are i h) ∙ sym (lies-at bytes i h .node i h)
 
-pub few : (bytes : List ℕ) (i : ℕ) → i < length (contents bytes .nodes) → i < 512
-few bytes i h = let z = lies-at bytes i h .few-nodes in omega arith
+pub few : {columns : List ℕ} {i : ℕ} → Has columns i → i < 512
+few h = let z = h .0 .formed .few-nodes in let l = h .1 in omega arith
 
 -- the reader's arena holds the bytes
 pub read-stored : (bytes : List ℕ) (r : Reading) → Read bytes r → Stored bytes (r .arena .starts)
@@ -46,6 +51,22 @@ read-stored bytes r p = record { starts-are = λ i h. go (read bytes) refl i h }
     go : (o : Outcome) → read bytes ≡ o → (i : ℕ) → i < length (contents-of (read bytes) .nodes) → getD (r .arena .starts) i 0 ≡ start-of bytes (length (contents-of (read bytes) .names)) i
     go (refused n k) e i h = absurd (let z = ap (λ (o : Outcome). length (contents-of o .nodes)) e in omega arith)
     go (accepted c) e i h = rw e (p .held c e .starts i (rw e at h))
+
+-- ---- columns
+
+-- what is copied from where accepted bytes' nodes begin is their nodes
+module _ {bytes starts columns : List ℕ} {n k : ℕ} (t : Told bytes n k) (s : Stored bytes starts) (c : Copies bytes starts k columns) where
+  pub holds : held columns ≡ contents bytes .nodes
+  holds =
+      copied-held bytes starts columns (contents bytes .nodes) (subst (λ (m : ℕ). Copies bytes starts m columns) (sym (t .nodes-are)) c)
+      (λ i h. sym (node-stored bytes starts s i h))
+
+  pub formed : Formed columns
+  formed =
+      record {
+        names = contents bytes .names;
+        formed = subst (λ (ms : List Node). WellFormed (record { names = contents bytes .names; nodes = ms })) (sym holds) (t .formed);
+      }
 
 -- ---- names
 

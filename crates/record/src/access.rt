@@ -1,7 +1,10 @@
 // A node and a name by their numbers.
 use crate::reader::read;
-use nodes::node_from;
-use octets::long;
+use memory::FIRSTS;
+use memory::KINDS;
+use memory::SECONDS;
+use memory::THIRDS;
+use nodes::node_of;
 use paper::NameNo;
 use paper::Node;
 use paper::NodeNo;
@@ -11,14 +14,20 @@ ghost use mathlib.Core.Path.{_≡_};
 ghost use lib.ListN.{getD, take, drop};
 ghost use Rattle.paper.specs.declared.Node.the-variants.{ListEnd};
 ghost use Rattle.paper.specs.Questions.{name as name-asked};
-ghost use Rattle.record.specs.Stored.{contents, Has};
+ghost use Rattle.record.specs.Stored.{held, Has};
 
 // The one function that knows where a node lies.
-pub fn node_at(bytes: &[u8], starts: &[u16; 512], i: NodeNo) -> Node
-    requires { ⌜ Has (now bytes) (now starts) (i .0) ⌝ }
-    ensures { λ r. ⌜ r ≡ getD (contents (now (bytes .entry)) .nodes) (i .0) ListEnd ⌝ }
+pub fn node_at(columns: &[u16; 2049], i: NodeNo) -> Node
+    requires { ⌜ Has (now columns) (i .0) ⌝ }
+    ensures { λ r. ⌜ r ≡ getD (held (now (columns .entry))) (i .0) ListEnd ⌝ }
 {
-    node_from(bytes, long(starts[i.0 as usize]))
+    let k = i.0 as usize;
+    node_of(
+        columns[KINDS + k],
+        columns[FIRSTS + k],
+        columns[SECONDS + k],
+        columns[THIRDS + k],
+    )
 }
 
 // At most 24 bytes from a place on, as far as there are any.

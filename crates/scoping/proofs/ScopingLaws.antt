@@ -133,43 +133,43 @@ module _ (words scope : Set) where
       m)
 
   -- what is found where the walk goes on below a condition, with these names in scope at the one condition below it
-  module _ (bytes : List ℕ) where
+  module _ (columns : List ℕ) where
     abbrev body : NodeNo → List Finding
-    body k = from (condition (condition-of bytes (k .0)))
+    body k = from (condition (condition-of columns (k .0)))
 
     abbrev side : NodeNo → List Finding
-    side k = from (operand (term-of bytes (k .0)))
+    side k = from (operand (term-of columns (k .0)))
 
     abbrev pub goes-on : Set → Below → List Finding
     goes-on inner below.Nothing = []
-    goes-on inner (below.Condition b) = scoped words (condition (condition-of bytes (b .0))) inner
+    goes-on inner (below.Condition b) = scoped words (condition (condition-of columns (b .0))) inner
     goes-on inner (below.Conditions l r) = body l ++ body r
     goes-on inner (below.Operands l r) = side l ++ side r
 
-    by-kind : (n : NodeNo) (m : Node) → let c = as-condition (planted (tree-of bytes) n m) in
+    by-kind : (n : NodeNo) (m : Node) → let c = as-condition (planted (tree-of columns) n m) in
         from (condition c) ≡ at-itself words c ++ goes-on (scope-first c scope) (entered-below m)
     unfolding scope-below scope-broken gather scoped nested in-arguments at-itself scope-first
     by-kind n =
-        entered-cases (tree-of bytes) n (λ s c. from (condition c) ≡ at-itself words c ++ goes-on (scope-first c scope) s)
+        entered-cases (tree-of columns) n (λ s c. from (condition c) ≡ at-itself words c ++ goes-on (scope-first c scope) s)
         (λ l r. at _ ∙ then-one (body l) (body r)) (λ l r. at _ ∙ then-one (body l) (body r)) (λ b. at _ ∙ append-nil _) (λ k b w. at _ ∙ append-nil _)
         (λ l r w. at _ ∙ then-one (body l) (body r))
         (λ s y b.
         at _
-        ∙ then-body (gather findings (scope-broken words (asked-at (condition (cond.Exists n s y (condition-of bytes (b .0)))) scope)))
-        (scoped words (condition (condition-of bytes (b .0))) (scope ∪ named s)))
+        ∙ then-body (gather findings (scope-broken words (asked-at (condition (cond.Exists n s y (condition-of columns (b .0)))) scope)))
+        (scoped words (condition (condition-of columns (b .0))) (scope ∪ named s)))
         (λ o l r. at _ ∙ then-one (side l) (side r)) (λ a l. at _ ∙ append-nil _ ∙ arguments-searched _ ∙ sym (append-nil _)) (λ b l. at _ ∙ append-nil _)
         (λ s. at _ ∙ sym (append-nil _)) (λ k y. at _) (nowhere-scoped _ _ _)
 
-  module _ {bytes starts : List ℕ} {i : ℕ} where
-    in-condition : {m : Node} → Arm bytes starts i m → from (condition (condition-of bytes i)) ≡ from (condition (as-condition (planted (tree-of bytes) (node-no i)
+  module _ {columns : List ℕ} {i : ℕ} where
+    in-condition : {m : Node} → Arm columns i m → from (condition (condition-of columns i)) ≡ from (condition (as-condition (planted (tree-of columns) (node-no i)
         m)))
     in-condition a = ap (λ (t : Tree). from (condition (as-condition t))) (a .tree)
 
     -- what is found at the condition itself, and then where the walk goes on
-    pub scoped-entered : {inner : Set} {m : Node} {s : Below} → Arm bytes starts i m → s ≡ entered-below m → inner ≡ scope-first (condition-of bytes i) scope
-        → from (condition (condition-of bytes i)) ≡ at-itself words (condition-of bytes i) ++ goes-on bytes inner s
+    pub scoped-entered : {inner : Set} {m : Node} {s : Below} → Arm columns i m → s ≡ entered-below m → inner ≡ scope-first (condition-of columns i) scope
+        → from (condition (condition-of columns i)) ≡ at-itself words (condition-of columns i) ++ goes-on columns inner s
     scoped-entered a e f =
-        in-condition a ∙ by-kind bytes _ _
+        in-condition a ∙ by-kind columns _ _
         ∙ sym (ap₂ {C = List Finding} _++_ (ap (λ (t : Tree). at-itself words (as-condition t)) (a .tree)) (rw (
           e,
           f ∙ ap (λ (t : Tree). scope-first (as-condition t) scope) (a
@@ -178,18 +178,18 @@ module _ (words scope : Set) where
 
     -- ---- operands
 
-    pub in-operand : {m : Node} → Arm bytes starts i m → from (operand (term-of bytes i)) ≡ from (operand (as-term (planted (tree-of bytes) (node-no i) m)))
+    pub in-operand : {m : Node} → Arm columns i m → from (operand (term-of columns i)) ≡ from (operand (as-term (planted (tree-of columns) (node-no i) m)))
     in-operand a = ap (λ (t : Tree). from (operand (as-term t))) (a .tree)
 
-    pub scoped-arith : {o : ℕ} {l r : NodeNo} → Arm bytes starts i (node.Arith o l r)
-        → from (operand (term-of bytes i)) ≡ from (operand (term-of bytes (l .0))) ++ from (operand (term-of bytes (r .0)))
+    pub scoped-arith : {o : ℕ} {l r : NodeNo} → Arm columns i (node.Arith o l r)
+        → from (operand (term-of columns i)) ≡ from (operand (term-of columns (l .0))) ++ from (operand (term-of columns (r .0)))
     unfolding planted as-term scope-below scope-broken gather scoped
-    scoped-arith {l = l} {r = r} a = in-operand a ∙ at _ ∙ then-one (from (operand (term-of bytes (l .0)))) (from (operand (term-of bytes (r .0))))
+    scoped-arith {l = l} {r = r} a = in-operand a ∙ at _ ∙ then-one (from (operand (term-of columns (l .0)))) (from (operand (term-of columns (r .0))))
 
-    pub scoped-array : {l : NodeNo} → Arm bytes starts i (node.Array l) → from (operand (term-of bytes i)) ≡ nested-in (tree-of bytes (l .0))
+    pub scoped-array : {l : NodeNo} → Arm columns i (node.Array l) → from (operand (term-of columns i)) ≡ nested-in (tree-of columns (l .0))
     unfolding planted as-term scope-below scope-broken gather scoped
     scoped-array {l = l} a =
-        in-operand a ∙ at _ ∙ append-nil _ ∙ items-searched (as-items (tree-of bytes (l .0)))
+        in-operand a ∙ at _ ∙ append-nil _ ∙ items-searched (as-items (tree-of columns (l .0)))
         ∙ sym (at-items nested nested-arguments nested-items [] no-item-nested _ (a .children .0 .fits))
 
   -- ---- aggregates
@@ -221,16 +221,16 @@ module _ (words scope : Set) where
   abbrev entered : Term → Condition → Set → Type 0
   entered t b inner = skips t ≡ false → from (operand t) ≡ gather findings (five-of words t scope) ++ scoped words (condition b) inner
 
-  module _ {bytes starts : List ℕ} {i : ℕ} where
-    pub scoped-aggregate : {inner : Set} {l b : NodeNo} {m : Node} → Aggregate l b m → inner ≡ scope ∪ binder-names (binders-of bytes (l .0)) → Arm bytes starts i m
-        → entered (term-of bytes i) (condition-of bytes (b .0)) inner
+  module _ {columns : List ℕ} {i : ℕ} where
+    pub scoped-aggregate : {inner : Set} {l b : NodeNo} {m : Node} → Aggregate l b m → inner ≡ scope ∪ binder-names (binders-of columns (l .0)) → Arm columns i m
+        → entered (term-of columns i) (condition-of columns (b .0)) inner
     unfolding planted as-term
     scoped-aggregate {l = l} {b = b} sum e a =
-        subst (entered (term-of bytes i) (condition-of bytes (b .0))) (sym e)
-        (subst (λ (t : Tree). entered (as-term t) (condition-of bytes (b .0)) (scope ∪ binder-names (binders-of bytes (l .0)))) (sym (a .tree)) (entered-sum _ _ _ _))
+        subst (entered (term-of columns i) (condition-of columns (b .0))) (sym e)
+        (subst (λ (t : Tree). entered (as-term t) (condition-of columns (b .0)) (scope ∪ binder-names (binders-of columns (l .0)))) (sym (a .tree)) (entered-sum _ _ _ _))
     scoped-aggregate {l = l} {b = b} count e a =
-        subst (entered (term-of bytes i) (condition-of bytes (b .0))) (sym e)
-        (subst (λ (t : Tree). entered (as-term t) (condition-of bytes (b .0)) (scope ∪ binder-names (binders-of bytes (l .0)))) (sym (a .tree)) (entered-count _ _ _))
+        subst (entered (term-of columns i) (condition-of columns (b .0))) (sym e)
+        (subst (λ (t : Tree). entered (as-term t) (condition-of columns (b .0)) (scope ∪ binder-names (binders-of columns (l .0)))) (sym (a .tree)) (entered-count _ _ _))
 
   -- ---- the other kinds
 
@@ -243,6 +243,6 @@ module _ (words scope : Set) where
       (λ l h. absurd (miss unentered-kinds 20 tt h)) (λ o l r h. absurd (miss unentered-kinds 21 tt h)) (λ s l b h. absurd (miss unentered-kinds 22 tt h))
       (λ l b h. absurd (miss unentered-kinds 23 tt h)) (λ y h. at (operand (AggregateCall n y))) (λ m e h. at (operand (Value (node-no 0) 0 0)))
 
-  module _ {bytes starts : List ℕ} {i : ℕ} {m : Node} where
-    pub operand-none : Arm bytes starts i m → OneOf unentered-kinds (tagOf the-type m) → from (operand (term-of bytes i)) ≡ []
+  module _ {columns : List ℕ} {i : ℕ} {m : Node} where
+    pub operand-none : Arm columns i m → OneOf unentered-kinds (tagOf the-type m) → from (operand (term-of columns i)) ≡ []
     operand-none a h = in-operand a ∙ no-operand _ _ _ h

@@ -24,8 +24,7 @@ ghost use Rattle.scoping.specs.Scoped.{scoped};
 
 // The entries of a condition and of what lies below it, with these names in scope and these reserved.
 pub fn check_condition(
-    bytes: &[u8],
-    starts: &[u16; 512],
+    columns: &[u16; 2049],
     rows: &[[u64; 5]],
     i: NodeNo,
     scope: Names,
@@ -33,37 +32,36 @@ pub fn check_condition(
     out: &mut [u32],
     at: usize,
 ) -> usize
-    requires { ⌜ Has (now bytes) (now starts) (i .0) × Noted (now bytes) (now rows) × (is-condition (tree-of (now bytes) (i .0)) ≡ true) ⌝ }
-    requires { ⌜ Room (scoped (mem words) (condition (condition-of (now bytes) (i .0))) (mem scope)) at ⌝ }
-    ensures { λ r. ⌜ Wrote (scoped (mem words) (condition (condition-of (now (bytes .entry)) (i .0))) (mem scope)) at r (now (out .entry)) (now (out .exit)) ⌝ }
+    requires { ⌜ Has (now columns) (i .0) × Noted (now columns) (now rows) × (is-condition (tree-of (now columns) (i .0)) ≡ true) ⌝ }
+    requires { ⌜ Room (scoped (mem words) (condition (condition-of (now columns) (i .0))) (mem scope)) at ⌝ }
+    ensures { λ r. ⌜ Wrote (scoped (mem words) (condition (condition-of (now (columns .entry)) (i .0))) (mem scope)) at r (now (out .entry)) (now (out .exit)) ⌝ }
 {
-    if is_plain(bytes, rows, i) {
+    if is_plain(columns, rows, i) {
         return at;
     }
-    let node = node_at(bytes, starts, i);
-    let p = check_itself(bytes, starts, rows, i, node, words, out, at);
+    let node = node_at(columns, i);
+    let p = check_itself(columns, rows, i, node, words, out, at);
     let below = entered_below(node);
     match below {
         Below::Nothing => p,
         Below::Condition(b) => {
             let inner = scope_first(node, scope);
-            check_condition(bytes, starts, rows, b, inner, words, out, p)
+            check_condition(columns, rows, b, inner, words, out, p)
         }
         Below::Conditions(l, r) => {
-            let q = check_condition(bytes, starts, rows, l, scope, words, out, p);
-            check_condition(bytes, starts, rows, r, scope, words, out, q)
+            let q = check_condition(columns, rows, l, scope, words, out, p);
+            check_condition(columns, rows, r, scope, words, out, q)
         }
         Below::Operands(l, r) => {
-            let q = check_operand(bytes, starts, rows, l, scope, words, out, p);
-            check_operand(bytes, starts, rows, r, scope, words, out, q)
+            let q = check_operand(columns, rows, l, scope, words, out, p);
+            check_operand(columns, rows, r, scope, words, out, q)
         }
     }
 }
 
 // The same of an operand of a comparison, through arithmetic to aggregates.
 pub fn check_operand(
-    bytes: &[u8],
-    starts: &[u16; 512],
+    columns: &[u16; 2049],
     rows: &[[u64; 5]],
     i: NodeNo,
     scope: Names,
@@ -71,25 +69,25 @@ pub fn check_operand(
     out: &mut [u32],
     at: usize,
 ) -> usize
-    requires { ⌜ Has (now bytes) (now starts) (i .0) × Noted (now bytes) (now rows) ⌝ }
-    requires { ⌜ Room (scoped (mem words) (operand (term-of (now bytes) (i .0))) (mem scope)) at ⌝ }
-    ensures { λ r. ⌜ Wrote (scoped (mem words) (operand (term-of (now (bytes .entry)) (i .0))) (mem scope)) at r (now (out .entry)) (now (out .exit)) ⌝ }
+    requires { ⌜ Has (now columns) (i .0) × Noted (now columns) (now rows) ⌝ }
+    requires { ⌜ Room (scoped (mem words) (operand (term-of (now columns) (i .0))) (mem scope)) at ⌝ }
+    ensures { λ r. ⌜ Wrote (scoped (mem words) (operand (term-of (now (columns .entry)) (i .0))) (mem scope)) at r (now (out .entry)) (now (out .exit)) ⌝ }
 {
-    let node = node_at(bytes, starts, i);
+    let node = node_at(columns, i);
     match node {
         Node::Arith(_, l, r) => {
-            let p = check_operand(bytes, starts, rows, l, scope, words, out, at);
-            check_operand(bytes, starts, rows, r, scope, words, out, p)
+            let p = check_operand(columns, rows, l, scope, words, out, at);
+            check_operand(columns, rows, r, scope, words, out, p)
         }
         Node::Sum(_, binders, body) | Node::Count(binders, body) => {
-            if is_skipped(bytes, starts, i) {
+            if is_skipped(columns, i) {
                 return at;
             }
-            let p = check_agg_expr(bytes, starts, rows, i, scope, words, out, at);
-            let inner = with_binders(bytes, starts, scope, binders);
-            check_condition(bytes, starts, rows, body, inner, words, out, p)
+            let p = check_agg_expr(columns, rows, i, scope, words, out, at);
+            let inner = with_binders(columns, scope, binders);
+            check_condition(columns, rows, body, inner, words, out, p)
         }
-        Node::Array(items) => reject_nested_agg(bytes, starts, items, out, at),
+        Node::Array(items) => reject_nested_agg(columns, items, out, at),
         _ => at,
     }
 }

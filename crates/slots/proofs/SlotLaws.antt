@@ -41,12 +41,12 @@ unnamed-slot (Name x) h = absurd (miss (1 ∷ 2 ∷ []) 0 tt h)
 unnamed-slot (Param k) h = refl
 unnamed-slot (Binder k) h = refl
 
-module _ {bytes starts : List ℕ} {i : ℕ} where
-  pub in-binders : {m : Node} → Arm bytes starts i m → binder-names (binders-of bytes i) ≡ binder-names (as-binders (planted (tree-of bytes) (node-no i) m))
+module _ {columns : List ℕ} {i : ℕ} where
+  pub in-binders : {m : Node} → Arm columns i m → binder-names (binders-of columns i) ≡ binder-names (as-binders (planted (tree-of columns) (node-no i) m))
   in-binders a = ap (λ (t : Tree). binder-names (as-binders t)) (a .tree)
 
-  pub binders-cell : {s : Slot} {y : ℕ} {l : NodeNo} → Arm bytes starts i (node.BinderCell s y l)
-      → binder-names (binders-of bytes i) ≡ named s ∪ binder-names (binders-of bytes (l .0))
+  pub binders-cell : {s : Slot} {y : ℕ} {l : NodeNo} → Arm columns i (node.BinderCell s y l)
+      → binder-names (binders-of columns i) ≡ named s ∪ binder-names (binders-of columns (l .0))
   unfolding planted as-binders binder-names
   binders-cell a = in-binders a
 

@@ -51,15 +51,15 @@ pub fn without_slot(others: Names, slot: Slot) -> Names
 }
 
 // The named binders of an aggregate's list.
-pub fn binder_names(bytes: &[u8], starts: &[u16; 512], i: NodeNo) -> Names
-    requires { ⌜ Has (now bytes) (now starts) (i .0) ⌝ }
-    ensures { λ r. ⌜ mem r ≡ binder-names (binders-of (now (bytes .entry)) (i .0)) ⌝ }
+pub fn binder_names(columns: &[u16; 2049], i: NodeNo) -> Names
+    requires { ⌜ Has (now columns) (i .0) ⌝ }
+    ensures { λ r. ⌜ mem r ≡ binder-names (binders-of (now (columns .entry)) (i .0)) ⌝ }
 {
-    let node = node_at(bytes, starts, i);
+    let node = node_at(columns, i);
     match node {
         Node::BinderCell(slot, _, rest) => {
             let own = slot_name(slot);
-            let others = binder_names(bytes, starts, rest);
+            let others = binder_names(columns, rest);
             names::union(own, others)
         }
         _ => names::empty(),
@@ -67,19 +67,19 @@ pub fn binder_names(bytes: &[u8], starts: &[u16; 512], i: NodeNo) -> Names
 }
 
 // The names, and those of an aggregate's binders.
-pub fn with_binders(bytes: &[u8], starts: &[u16; 512], others: Names, i: NodeNo) -> Names
-    requires { ⌜ Has (now bytes) (now starts) (i .0) ⌝ }
-    ensures { λ r. ⌜ mem r ≡ mem others ∪ binder-names (binders-of (now (bytes .entry)) (i .0)) ⌝ }
+pub fn with_binders(columns: &[u16; 2049], others: Names, i: NodeNo) -> Names
+    requires { ⌜ Has (now columns) (i .0) ⌝ }
+    ensures { λ r. ⌜ mem r ≡ mem others ∪ binder-names (binders-of (now (columns .entry)) (i .0)) ⌝ }
 {
-    let own = binder_names(bytes, starts, i);
+    let own = binder_names(columns, i);
     names::union(others, own)
 }
 
 // The names, without those of an aggregate's binders.
-pub fn without_binders(bytes: &[u8], starts: &[u16; 512], others: Names, i: NodeNo) -> Names
-    requires { ⌜ Has (now bytes) (now starts) (i .0) ⌝ }
-    ensures { λ r. ⌜ mem r ≡ mem others ∖ binder-names (binders-of (now (bytes .entry)) (i .0)) ⌝ }
+pub fn without_binders(columns: &[u16; 2049], others: Names, i: NodeNo) -> Names
+    requires { ⌜ Has (now columns) (i .0) ⌝ }
+    ensures { λ r. ⌜ mem r ≡ mem others ∖ binder-names (binders-of (now (columns .entry)) (i .0)) ⌝ }
 {
-    let own = binder_names(bytes, starts, i);
+    let own = binder_names(columns, i);
     names::minus(others, own)
 }

@@ -15,9 +15,8 @@ use Rattle.paper.specs.Shape.{references, names-in}
 use Rattle.paper.proofs.Walks.{All, all-map, all-both}
 use Rattle.paper.proofs.Weights.{of-sort}
 use Rattle.paper.proofs.Forests.{tree-step, tree-same}
-use Rattle.paper.proofs.WellFormed.{WellFormed, well-formed}
-use Rattle.record.specs.Stored.{contents, Has}
-use Rattle.record.proofs.StoredLaws.{by-outcome}
+use Rattle.paper.proofs.WellFormed.{WellFormed}
+use Rattle.record.specs.Stored.{held, Has}
 use Rattle.trees.specs.Trees.{tree-of, is-condition}
 use Rattle.trees.proofs.Sorts.{a-body}
 
@@ -55,53 +54,53 @@ planted-same t u n (ItemCell x l) e = rw (e .0, e .1 .0)
 planted-same t u n (BinderCell s y l) e = rw (e .0)
 
 -- what a walk knows of a node that node i refers to, at a place of a sort
-pub record Child (bytes starts : List ℕ) (i : ℕ) (s : Sort) (k : ℕ) : Type 0 where
+pub record Child (columns : List ℕ) (i : ℕ) (s : Sort) (k : ℕ) : Type 0 where
   pub falls : k < i
-  pub has : Has bytes starts k
-  pub fits : of-sort s (tree-of bytes k) ≡ true
+  pub has : Has columns k
+  pub fits : of-sort s (tree-of columns k) ≡ true
 
 -- what it knows where node i is m
-pub record Arm (bytes starts : List ℕ) (i : ℕ) (m : Node) : Type 0 where
-  pub children : All (λ q. Child bytes starts i (q .0) (q .1)) (references m)
+pub record Arm (columns : List ℕ) (i : ℕ) (m : Node) : Type 0 where
+  pub children : All (λ q. Child columns i (q .0) (q .1)) (references m)
   pub tabled : All (λ x. x < 128) (names-in m)
-  pub tree : tree-of bytes i ≡ planted (tree-of bytes) (node-no i) m
+  pub tree : tree-of columns i ≡ planted (tree-of columns) (node-no i) m
 
-module _ (bytes starts : List ℕ) (i : ℕ) (g m : Node) (h : Has bytes starts i) (e : g ≡ getD (contents bytes .nodes) i ListEnd) (p : g ≡ m) where
-  here : getD (contents bytes .nodes) i ListEnd ≡ m
+module _ (columns : List ℕ) (i : ℕ) (g m : Node) (h : Has columns i) (e : g ≡ getD (held columns) i ListEnd) (p : g ≡ m) where
+  here : getD (held columns) i ListEnd ≡ m
   here = sym e ∙ p
 
-  f : WellFormed (contents bytes)
-  f = by-outcome bytes WellFormed (well-formed bytes) i (h .1)
+  abbrev f : WellFormed (record { names = h .0 .names; nodes = held columns })
+  f = h .0 .formed
 
   below : All (λ q. q .1 < i) (references m)
   below = subst (λ (z : Node). All (λ q. q .1 < i) (references z)) here (f .sound i (h .1) .below)
 
-  fitting : All (λ q. of-sort (q .0) (tree-of bytes (q .1)) ≡ true) (references m)
-  fitting = subst (λ (z : Node). All (λ q. of-sort (q .0) (tree-of bytes (q .1)) ≡ true) (references z)) here (f .sound i (h .1) .sorts)
+  fitting : All (λ q. of-sort (q .0) (tree-of columns (q .1)) ≡ true) (references m)
+  fitting = subst (λ (z : Node). All (λ q. of-sort (q .0) (tree-of columns (q .1)) ≡ true) (references z)) here (f .sound i (h .1) .sorts)
 
-  pub arm : Arm bytes starts i m
+  pub arm : Arm columns i m
   arm =
       let few = f .few-names in
       let within = h .1 in
       record {
         children =
-            all-both (λ q. q .1 < i) (λ q. of-sort (q .0) (tree-of bytes (q .1)) ≡ true) (λ q. Child bytes starts i (q .0) (q .1))
-            (λ q l z. record { falls = l; has = (h .0, let z : q .1 < length (contents bytes .nodes) = omega arith in z); fits = z }) (references m) below fitting;
+            all-both (λ q. q .1 < i) (λ q. of-sort (q .0) (tree-of columns (q .1)) ≡ true) (λ q. Child columns i (q .0) (q .1))
+            (λ q l z. record { falls = l; has = (h .0, let z : q .1 < length (held columns) = omega arith in z); fits = z }) (references m) below fitting;
         tabled =
-            all-map (λ x (l : x < length (contents bytes .names)). let z : x < 128 = omega arith in z) (names-in m)
-            (subst (λ (z : Node). All (λ x. x < length (contents bytes .names)) (names-in z)) here (f .sound i (h .1) .known));
+            all-map (λ x (l : x < length (h .0 .names)). let z : x < 128 = omega arith in z) (names-in m)
+            (subst (λ (z : Node). All (λ x. x < length (h .0 .names)) (names-in z)) here (f .sound i (h .1) .known));
         tree =
-            tree-step (contents bytes .nodes) i ∙ ap (planted (trees (contents bytes .nodes) i) (node-no i)) here
-            ∙ planted-same (trees (contents bytes .nodes) i) (tree-of bytes) (node-no i) m
-            (all-map (λ q (l : q .1 < i). tree-same (contents bytes .nodes) i (q .1) l) (references m) below);
+            tree-step (held columns) i ∙ ap (planted (trees (held columns) i) (node-no i)) here
+            ∙ planted-same (trees (held columns) i) (tree-of columns) (node-no i) m
+            (all-map (λ q (l : q .1 < i). tree-same (held columns) i (q .1) l) (references m) below);
       }
 
 -- what a call on a child asks for, where the caller's node is t
-pub down : {bytes starts : List ℕ} {i : ℕ} {s : Sort} {k t : ℕ} → Child bytes starts i s k → i ≡ t → (k < t) × Has bytes starts k
+pub down : {columns : List ℕ} {i : ℕ} {s : Sort} {k t : ℕ} → Child columns i s k → i ≡ t → (k < t) × Has columns k
 down c e = let f = c .falls in (omega arith, c .has)
 
 -- the last node is a condition
-pub last-body : {bytes starts : List ℕ} {i : ℕ} → Has bytes starts i → length (contents bytes .nodes) ≡ i + 1 → is-condition (tree-of bytes i) ≡ true
-last-body {bytes} {i = i} h e =
-    let f = by-outcome bytes WellFormed (well-formed bytes) i (h .1) in
-    a-body (tree-of bytes i) (ap (λ (k : ℕ). of-sort condition (tree-of bytes k)) (let z : i ≡ length (contents bytes .nodes) - 1 = omega arith in z) ∙ f .rooted)
+pub last-body : {columns : List ℕ} {i : ℕ} → Has columns i → length (held columns) ≡ i + 1 → is-condition (tree-of columns i) ≡ true
+last-body {columns} {i = i} h e =
+    let f = h .0 .formed in
+    a-body (tree-of columns i) (ap (λ (k : ℕ). of-sort condition (tree-of columns k)) (let z : i ≡ length (held columns) - 1 = omega arith in z) ∙ f .rooted)

@@ -29,12 +29,12 @@ module _ {A : Type 0} {f : Term → A} {g : Arguments → A} {h : Items → A} {
   abbrev within : Tree → A
   within t = in-terms f g h v t
 
-  pub array-law : {bytes starts : List ℕ} {i : ℕ} {l : NodeNo} → Arm bytes starts i (node.Array l) → within (tree-of bytes i) ≡ within (tree-of bytes (l .0))
+  pub array-law : {columns : List ℕ} {i : ℕ} {l : NodeNo} → Arm columns i (node.Array l) → within (tree-of columns i) ≡ within (tree-of columns (l .0))
   unfolding planted in-terms
   array-law a = ap within (a .tree) ∙ j .array _ _ ∙ sym (at-items f g h v (j .no-item) _ (a .children .0 .fits))
 
-  pub terms-law : {bytes starts : List ℕ} {i : ℕ} {l r : NodeNo} {m : Node} → Terms l r m → Arm bytes starts i m
-      → within (tree-of bytes i) ≡ op (within (tree-of bytes (l .0))) (within (tree-of bytes (r .0)))
+  pub terms-law : {columns : List ℕ} {i : ℕ} {l r : NodeNo} {m : Node} → Terms l r m → Arm columns i m
+      → within (tree-of columns i) ≡ op (within (tree-of columns (l .0))) (within (tree-of columns (r .0)))
   unfolding planted in-terms
   terms-law shape.arith a =
       ap within (a .tree) ∙ j .arith _ _ _ _

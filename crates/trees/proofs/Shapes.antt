@@ -35,12 +35,12 @@ rest-sort arith = term
 rest-sort argument = arguments
 rest-sort item = items
 
-module _ {bytes starts : List ℕ} {i : ℕ} where
-  pub of-aggregate : {l b : NodeNo} {m : Node} → Aggregate l b m → Arm bytes starts i m → Child bytes starts i binders (l .0) × Child bytes starts i condition (b .0)
+module _ {columns : List ℕ} {i : ℕ} where
+  pub of-aggregate : {l b : NodeNo} {m : Node} → Aggregate l b m → Arm columns i m → Child columns i binders (l .0) × Child columns i condition (b .0)
   of-aggregate sum a = (a .children .0, a .children .1 .0)
   of-aggregate count a = (a .children .0, a .children .1 .0)
 
-  pub of-terms : {l r : NodeNo} {m : Node} (s : Terms l r m) → Arm bytes starts i m → Child bytes starts i term (l .0) × Child bytes starts i (rest-sort s) (r .0)
+  pub of-terms : {l r : NodeNo} {m : Node} (s : Terms l r m) → Arm columns i m → Child columns i term (l .0) × Child columns i (rest-sort s) (r .0)
   unfolding rest-sort
   of-terms arith a = (a .children .0, a .children .1 .0)
   of-terms argument a = (a .children .0, a .children .1 .0)

@@ -1,3 +1,3 @@
--- The trees of the nodes of some bytes, and what is said of their terms.
+-- The trees of the nodes that columns hold, and what is said of their terms.
 pub mod Trees
 pub mod Terms

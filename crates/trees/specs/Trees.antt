@@ -1,24 +1,24 @@
--- The tree of a node of some bytes, by itself and at a place of its sort. Assumes nothing: these are definitions.
+-- The tree of a node that columns hold, by itself and at a place of its sort. Assumes nothing: these are definitions.
 use Prim.Native.Nat.{ℕ}
 use mathlib.Core.Bool.{Bool, true, false}
 use mathlib.Core.List.{List}
 use Rattle.paper.specs.Tree.{Condition, Term, Arguments, Items, Binders, Tree, a-condition, a-term, arguments, items, binders, an-end, as-condition, as-term, as-arguments, as-binders, tree-at}
-use Rattle.record.specs.Stored.{contents}
+use Rattle.record.specs.Stored.{held}
 
 abbrev pub tree-of : List ℕ → ℕ → Tree
-tree-of bytes i = tree-at (contents bytes .nodes) i
+tree-of columns i = tree-at (held columns) i
 
 abbrev pub condition-of : List ℕ → ℕ → Condition
-condition-of bytes i = as-condition (tree-of bytes i)
+condition-of columns i = as-condition (tree-of columns i)
 
 abbrev pub term-of : List ℕ → ℕ → Term
-term-of bytes i = as-term (tree-of bytes i)
+term-of columns i = as-term (tree-of columns i)
 
 abbrev pub arguments-of : List ℕ → ℕ → Arguments
-arguments-of bytes i = as-arguments (tree-of bytes i)
+arguments-of columns i = as-arguments (tree-of columns i)
 
 abbrev pub binders-of : List ℕ → ℕ → Binders
-binders-of bytes i = as-binders (tree-of bytes i)
+binders-of columns i = as-binders (tree-of columns i)
 
 -- what is said of a term, or of the terms in a list of arguments or items; of any other tree it is `v`
 unfoldable pub in-terms : {A : Type 0} → (Term → A) → (Arguments → A) → (Items → A) → A → Tree → A

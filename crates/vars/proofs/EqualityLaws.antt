@@ -25,7 +25,7 @@ use Rattle.paper.specs.Tree.{Term, Tree, as-term, planted}
 use Rattle.paper.specs.Tree.Term.{Var, Wildcard, Value, Sigil, Array, Arith, Sum, Count, AggregateCall}
 use Rattle.paper.specs.FreeAndRestricted.{has-wildcard, items-wildcard, bare, ties, equality, tied, tied-name}
 use Rattle.paper.proofs.Walks.{All}
-use Rattle.record.specs.Stored.{contents, Has}
+use Rattle.record.specs.Stored.{held, Has}
 use Rattle.trees.specs.Trees.{tree-of, term-of, in-terms}
 use Rattle.trees.proofs.Arms.{Arm, arm}
 use Rattle.trees.proofs.ByKind.{term-kinds, no-other, term-cases, in-terms-cases}
@@ -52,35 +52,35 @@ no-name e = let z : _≡_ {A = ℕ} 0 1 = cc in omega arith
 same-name : {x y : NameNo} → subject.Name x ≡ subject.Name y → x ≡ y
 same-name e = cc
 
-module _ {bytes starts : List ℕ} {i : ℕ} where
-  pub wildcard-here : Arm bytes starts i node.Wildcard → wildcard-in (tree-of bytes i) ≡ true
+module _ {columns : List ℕ} {i : ℕ} where
+  pub wildcard-here : Arm columns i node.Wildcard → wildcard-in (tree-of columns i) ≡ true
   unfolding planted in-terms has-wildcard
   wildcard-here a = ap wildcard-in (a .tree)
 
   -- ---- the binding equality
 
-  pub in-term : {A : Type 0} (f : Term → A) {m : Node} → Arm bytes starts i m → f (term-of bytes i) ≡ f (as-term (planted (tree-of bytes) (node-no i) m))
+  pub in-term : {A : Type 0} (f : Term → A) {m : Node} → Arm columns i m → f (term-of columns i) ≡ f (as-term (planted (tree-of columns) (node-no i) m))
   in-term f a = ap (λ (t : Tree). f (as-term t)) (a .tree)
 
-  pub bare-here : {x : NameNo} → Arm bytes starts i (node.Var x) → bare (term-of bytes i) ≡ subject.Name x
+  pub bare-here : {x : NameNo} → Arm columns i (node.Var x) → bare (term-of columns i) ≡ subject.Name x
   unfolding planted as-term bare
   bare-here a = in-term bare a
 
   -- a bare variable is in the table
-  pub bare-tabled : Has bytes starts i → {x : NameNo} → bare (term-of bytes i) ≡ subject.Name x → x .0 < 128
+  pub bare-tabled : Has columns i → {x : NameNo} → bare (term-of columns i) ≡ subject.Name x → x .0 < 128
   unfolding bare
-  bare-tabled h {x} e = here (getD (contents bytes .nodes) i node.ListEnd) (arm bytes starts i _ _ h refl refl)
+  bare-tabled h {x} e = here (getD (held columns) i node.ListEnd) (arm columns i _ _ h refl refl)
     where
-      here : (m : Node) → Arm bytes starts i m → x .0 < 128
+      here : (m : Node) → Arm columns i m → x .0 < 128
       here m a =
-          term-cases (tree-of bytes) (node-no i) (λ m z. All (λ y. y < 128) (names-in m) → bare z ≡ subject.Name x → x .0 < 128)
+          term-cases (tree-of columns) (node-no i) (λ m z. All (λ y. y < 128) (names-in m) → bare z ≡ subject.Name x → x .0 < 128)
           (λ y a e. subst (λ (z : NameNo). z .0 < 128) (same-name e) (a .0)) (λ a e. absurd (no-name e)) (λ y a e. absurd (no-name e)) (λ y a e. absurd (no-name e))
           (λ y a e. absurd (no-name e)) (λ k a e. absurd (no-name e)) (λ k a e. absurd (no-name e)) (λ l a e. absurd (no-name e)) (λ o l r a e. absurd (no-name e))
           (λ s l b a e. absurd (no-name e)) (λ l b a e. absurd (no-name e)) (λ y a e. absurd (no-name e)) (λ m o a e. absurd (no-name e))
           m (a .tabled) (sym (in-term bare a) ∙ e)
 
   -- arithmetic ties where it contains no wildcard
-  pub ties-arith : {o : ℕ} {l r : NodeNo} → Arm bytes starts i (node.Arith o l r) → ties (term-of bytes i) ≡ not (wildcard-in (tree-of bytes i))
+  pub ties-arith : {o : ℕ} {l r : NodeNo} → Arm columns i (node.Arith o l r) → ties (term-of columns i) ≡ not (wildcard-in (tree-of columns i))
   unfolding planted as-term in-terms ties has-wildcard
   ties-arith a = in-term ties a ∙ sym (ap (λ (t : Tree). not (wildcard-in t)) (a .tree))
 
@@ -161,11 +161,11 @@ unfolding tied-name
 tied-to-name left = refl
 tied-to-name right = refl
 
-pub tied-tabled : {bytes starts : List ℕ} {i j : ℕ} → Has bytes starts i → Has bytes starts j → {x : NameNo} {z : Tied} → TiedTo x z → (o : ℕ)
-    → z ≡ tied o (term-of bytes i) (term-of bytes j) → x .0 < 128
-tied-tabled {bytes} {starts} {i} {j} h k {x} {z} d o e = go d (subst (λ (y : Tied). OfSide y (bare (term-of bytes i)) (bare (term-of bytes j))) (sym e) (tied-bare o _ _))
+pub tied-tabled : {columns : List ℕ} {i j : ℕ} → Has columns i → Has columns j → {x : NameNo} {z : Tied} → TiedTo x z → (o : ℕ)
+    → z ≡ tied o (term-of columns i) (term-of columns j) → x .0 < 128
+tied-tabled {columns} {i} {j} h k {x} {z} d o e = go d (subst (λ (y : Tied). OfSide y (bare (term-of columns i)) (bare (term-of columns j))) (sym e) (tied-bare o _ _))
   where
-    go : {z : Tied} → TiedTo x z → OfSide z (bare (term-of bytes i)) (bare (term-of bytes j)) → x .0 < 128
+    go : {z : Tied} → TiedTo x z → OfSide z (bare (term-of columns i)) (bare (term-of columns j)) → x .0 < 128
     go left e = bare-tabled h e
     go right e = bare-tabled k e
 

@@ -13,27 +13,27 @@ ghost use Rattle.trees.specs.Trees.{tree-of, term-of};
 ghost use Rattle.trees.specs.Terms.{wildcard-in};
 
 // Of a term, or of the terms of a list.
-pub fn term_contains_wildcard(bytes: &[u8], starts: &[u16; 512], i: NodeNo) -> bool
-    requires { ⌜ Has (now bytes) (now starts) (i .0) ⌝ }
-    ensures { λ r. ⌜ r ≡ wildcard-in (tree-of (now (bytes .entry)) (i .0)) ⌝ }
+pub fn term_contains_wildcard(columns: &[u16; 2049], i: NodeNo) -> bool
+    requires { ⌜ Has (now columns) (i .0) ⌝ }
+    ensures { λ r. ⌜ r ≡ wildcard-in (tree-of (now (columns .entry)) (i .0)) ⌝ }
 {
-    let node = node_at(bytes, starts, i);
+    let node = node_at(columns, i);
     match node {
         Node::Wildcard => true,
         Node::Arith(_, l, r) | Node::ArgumentCell(_, l, r) | Node::ItemCell(l, r) => {
-            term_contains_wildcard(bytes, starts, l) || term_contains_wildcard(bytes, starts, r)
+            term_contains_wildcard(columns, l) || term_contains_wildcard(columns, r)
         }
-        Node::Array(items) => term_contains_wildcard(bytes, starts, items),
+        Node::Array(items) => term_contains_wildcard(columns, items),
         _ => false,
     }
 }
 
 // The variable that is the whole term, if there is one.
-pub fn bare_var(bytes: &[u8], starts: &[u16; 512], i: NodeNo) -> Subject
-    requires { ⌜ Has (now bytes) (now starts) (i .0) ⌝ }
-    ensures { λ r. ⌜ r ≡ bare (term-of (now (bytes .entry)) (i .0)) ⌝ }
+pub fn bare_var(columns: &[u16; 2049], i: NodeNo) -> Subject
+    requires { ⌜ Has (now columns) (i .0) ⌝ }
+    ensures { λ r. ⌜ r ≡ bare (term-of (now (columns .entry)) (i .0)) ⌝ }
 {
-    let node = node_at(bytes, starts, i);
+    let node = node_at(columns, i);
     match node {
         Node::Var(x) => Subject::Name(x),
         _ => Subject::NoName,
@@ -41,37 +41,37 @@ pub fn bare_var(bytes: &[u8], starts: &[u16; 512], i: NodeNo) -> Subject
 }
 
 // Whether a side of an equality has a value that ties the variable on the other.
-pub fn is_restrictor(bytes: &[u8], starts: &[u16; 512], i: NodeNo) -> bool
-    requires { ⌜ Has (now bytes) (now starts) (i .0) ⌝ }
-    ensures { λ r. ⌜ r ≡ ties (term-of (now (bytes .entry)) (i .0)) ⌝ }
+pub fn is_restrictor(columns: &[u16; 2049], i: NodeNo) -> bool
+    requires { ⌜ Has (now columns) (i .0) ⌝ }
+    ensures { λ r. ⌜ r ≡ ties (term-of (now (columns .entry)) (i .0)) ⌝ }
 {
-    let node = node_at(bytes, starts, i);
+    let node = node_at(columns, i);
     match node {
         Node::Var(_) | Node::Wildcard => false,
-        Node::Arith(_, _, _) => !term_contains_wildcard(bytes, starts, i),
+        Node::Arith(_, _, _) => !term_contains_wildcard(columns, i),
         _ => true,
     }
 }
 
 // Which side of a comparison is tied to the other's value.
-pub fn eq_restricted_var(bytes: &[u8], starts: &[u16; 512], op: u8, l: NodeNo, r: NodeNo) -> Tied
-    requires { ⌜ Has (now bytes) (now starts) (l .0) × Has (now bytes) (now starts) (r .0) ⌝ }
-    ensures { λ t. ⌜ t ≡ tied op (term-of (now (bytes .entry)) (l .0)) (term-of (now (bytes .entry)) (r .0)) ⌝ }
+pub fn eq_restricted_var(columns: &[u16; 2049], op: u8, l: NodeNo, r: NodeNo) -> Tied
+    requires { ⌜ Has (now columns) (l .0) × Has (now columns) (r .0) ⌝ }
+    ensures { λ t. ⌜ t ≡ tied op (term-of (now (columns .entry)) (l .0)) (term-of (now (columns .entry)) (r .0)) ⌝ }
 {
     if op != 0 {
         return Tied::Neither;
     }
-    match bare_var(bytes, starts, l) {
+    match bare_var(columns, l) {
         Subject::Name(x) => {
-            if is_restrictor(bytes, starts, r) {
+            if is_restrictor(columns, r) {
                 Tied::Left(x)
             } else {
                 Tied::Neither
             }
         }
-        Subject::NoName => match bare_var(bytes, starts, r) {
+        Subject::NoName => match bare_var(columns, r) {
             Subject::Name(y) => {
-                if is_restrictor(bytes, starts, l) {
+                if is_restrictor(columns, l) {
                     Tied::Right(y)
                 } else {
                     Tied::Neither
@@ -83,11 +83,11 @@ pub fn eq_restricted_var(bytes: &[u8], starts: &[u16; 512], op: u8, l: NodeNo, r
 }
 
 // The name that a comparison ties.
-pub fn tied_var(bytes: &[u8], starts: &[u16; 512], op: u8, l: NodeNo, r: NodeNo) -> Names
-    requires { ⌜ Has (now bytes) (now starts) (l .0) × Has (now bytes) (now starts) (r .0) ⌝ }
-    ensures { λ s. ⌜ mem s ≡ tied-name (tied op (term-of (now (bytes .entry)) (l .0)) (term-of (now (bytes .entry)) (r .0))) ⌝ }
+pub fn tied_var(columns: &[u16; 2049], op: u8, l: NodeNo, r: NodeNo) -> Names
+    requires { ⌜ Has (now columns) (l .0) × Has (now columns) (r .0) ⌝ }
+    ensures { λ s. ⌜ mem s ≡ tied-name (tied op (term-of (now (columns .entry)) (l .0)) (term-of (now (columns .entry)) (r .0))) ⌝ }
 {
-    match eq_restricted_var(bytes, starts, op, l, r) {
+    match eq_restricted_var(columns, op, l, r) {
         Tied::Left(x) | Tied::Right(x) => names::single(x),
         Tied::Neither => names::empty(),
     }

@@ -15,8 +15,8 @@ use Rattle.aggregates.proofs.check_agg_expr.Statement.{statement}
 use Rattle.aggregates.proofs.check_agg_expr.Tie as tie
 
 here : (c : tie.After-node-at) {m : Node} → c .node-at .result ≡ m
-    → Arm (now (c .before .before .before .args .bytes)) (now (c .before .before .before .args .starts)) (c .before .before .before .args .i .0) m
-here c p = arm _ _ _ _ _ (c .before .before .before .pre .0 .0) (c .node-at .ensures) p
+    → Arm (now (c .before .before .args .columns)) (c .before .before .args .i .0) m
+here c p = arm _ _ _ _ (c .before .before .pre .0 .0) (c .node-at .ensures) p
 
 abbrev all : List Broken → List Finding
 all l = gather findings l
@@ -43,18 +43,18 @@ pub check-agg-expr-spec : {M : Type 1} → statement M
 check-agg-expr-spec =
     tie.close
     (tie.spec
-    (λ c κs. c .before .before .pre .0 .0)
+    (λ c κs. c .before .pre .0 .0)
     (λ c. search needs)
     (λ c κs. slot-tabled (c .before .node .given .0 .0) (here (c .before .before .before) (c .before .node .given .1) .tabled))
     (λ c κs. let a = here (c .before .before .before .before .before) (c .before .before .before .node .given .1) in (
-      (a .children .0 .has, a .children .1 .0 .has .1, c .before .before .before .before .before .before .before .before .pre .0 .1, a-body _ (a .children .1 .0 .fits)),
-      room-is (ap all (five-sum _ _ (c .before .slot-name .ensures) a)) (c .before .before .before .before .before .before .before .before .pre .1),
+      (a .children .0 .has, a .children .1 .0 .has .1, c .before .before .before .before .before .before .before .pre .0 .1, a-body _ (a .children .1 .0 .fits)),
+      room-is (ap all (five-sum _ _ (c .before .slot-name .ensures) a)) (c .before .before .before .before .before .before .before .pre .1),
     ))
     (λ c. search needs)
     (λ c κs. search needs)
     (λ c κs. let a = here (c .before .before .before .before .before) (c .before .before .before .node2 .given .1) in (
-      (a .children .0 .has, a .children .1 .0 .has .1, c .before .before .before .before .before .before .before .before .pre .0 .1, a-body _ (a .children .1 .0 .fits)),
-      room-is (ap all (five-count _ _ (c .before .empty .ensures) a)) (c .before .before .before .before .before .before .before .before .pre .1),
+      (a .children .0 .has, a .children .1 .0 .has .1, c .before .before .before .before .before .before .before .pre .0 .1, a-body _ (a .children .1 .0 .fits)),
+      room-is (ap all (five-count _ _ (c .before .empty .ensures) a)) (c .before .before .before .before .before .before .before .pre .1),
     ))
     (λ c. search needs)
     returns

@@ -21,10 +21,10 @@ same words n cs p q r s = rw (p, q, r, s)
 
 -- the five rules over the sets that were made
 five-here : (c : tie.After-minus4) →
-    let s = c .before .before .before .before .before .before .before .before .before .before .args in
-    gather findings (five (mem (s .words)) (s .n) (mem (s .summed)) (binders-of (now (s .bytes)) (s .binders .0)) (condition-of (now (s .bytes)) (s .body .0)) (mem (s
+    let s = c .before .before .before .before .before .before .before .before .before .args in
+    gather findings (five (mem (s .words)) (s .n) (mem (s .summed)) (binders-of (now (s .columns)) (s .binders .0)) (condition-of (now (s .columns)) (s .body .0)) (mem (s
     .scope)))
-    ≡ written (mem (s .words)) (s .n) (cells (binders-of (now (s .bytes)) (s .binders .0))) (mem (c .before .before .before .minus .result))
+    ≡ written (mem (s .words)) (s .n) (cells (binders-of (now (s .columns)) (s .binders .0))) (mem (c .before .before .before .minus .result))
     (mem (c .before .before .minus2 .result)) (mem (c .before .minus3 .result)) (mem (c .minus4 .result))
 five-here c =
     let own = c .before .before .before .before .before .before .before .binder-names .ensures in
@@ -43,20 +43,20 @@ pub check-aggregation-spec : {M : Type 1} → statement M
 check-aggregation-spec =
     tie.close
     (tie.spec
-    (λ c κs. c .before .before .pre .0 .0)
+    (λ c κs. c .before .pre .0 .0)
+    (λ c κs. let s = c .before .before .pre .0 in (s .1, s .2, s .3))
     (λ c κs. let s = c .before .before .before .pre .0 in (s .1, s .2, s .3))
-    (λ c κs. let s = c .before .before .before .before .pre .0 in (s .1, s .2, s .3))
     (λ c κs. search needs)
     (λ c κs. search needs)
     (λ c κs. search needs)
     (λ c κs. search needs)
     (λ c κs. search needs)
     (λ c κs. (
-      c .before .before .before .before .before .before .before .before .before .before .before .pre .0 .0,
-      room-first _ _ (room-is (five-here (c .before)) (c .before .before .before .before .before .before .before .before .before .before .before .pre .1)),
+      c .before .before .before .before .before .before .before .before .before .before .pre .0 .0,
+      room-first _ _ (room-is (five-here (c .before)) (c .before .before .before .before .before .before .before .before .before .before .pre .1)),
     ))
     (λ c κs. room-first _ _ (room-rest _ _ (c .before .before .before .emit-cells .ensures) (omega (arith, c .before .before .before .emit-cells .ensures .total))
-    (room-is (five-here (c .before .before .before .before .before)) (c .before .before .before .before .before .before .before .before .before .before .before .before .before .before .before .pre .1))))
+    (room-is (five-here (c .before .before .before .before .before)) (c .before .before .before .before .before .before .before .before .before .before .before .before .before .before .pre .1))))
     (λ c κs. room-first _ _ (room-rest _ _ (c .before .before .before .emit .ensures) (omega (
       arith,
       c .before .before .before .emit .ensures .total,
@@ -67,9 +67,9 @@ check-aggregation-spec =
       c .before .before .before .emit .ensures .total,
       c .before .before .before .before .before .before .before .emit-cells .ensures
           .total,
-    )) (room-is (five-here (c .before .before .before .before .before .before .before .before .before)) (c .before .before .before .before .before .before .before .before .before .before .before .before .before .before .before .before .before .before .before .pre .1)))))
+    )) (room-is (five-here (c .before .before .before .before .before .before .before .before .before)) (c .before .before .before .before .before .before .before .before .before .before .before .before .before .before .before .before .before .before .pre .1)))))
     (λ c κs. (
-      c .before .before .before .before .before .before .before .before .before .before .before .before .before .before .before .before .before .before .before .before .before .before .before .pre .0 .0,
+      c .before .before .before .before .before .before .before .before .before .before .before .before .before .before .before .before .before .before .before .before .before .before .pre .0 .0,
       room-first _ _ (room-rest _ _ (c .before .before .before .emit2 .ensures) (omega (
         arith,
         c .before .before .before
@@ -88,10 +88,10 @@ check-aggregation-spec =
             c .before .before .before .before .before .before .before .emit .ensures .total,
             c .before .before .before .before .before .before .before .before .before .before .before .emit-cells .ensures .total,
           )) (room-is (five-here (c .before .before .before .before .before .before .before .before .before .before .before .before .before))
-          (c .before .before .before .before .before .before .before .before .before .before .before .before .before .before .before .before .before .before .before .before .before .before .before .pre .1))))),
+          (c .before .before .before .before .before .before .before .before .before .before .before .before .before .before .before .before .before .before .before .before .before .before .pre .1))))),
     ))
     (λ c κs. (
-      c .before .before .before .before .before .before .before .before .before .before .before .before .before .before .before .before .before .before .before .before .before .before .before .before .before .before .before .pre .0 .0,
+      c .before .before .before .before .before .before .before .before .before .before .before .before .before .before .before .before .before .before .before .before .before .before .before .before .before .before .pre .0 .0,
       room-rest _ _ (c .before .before .before .emit-cells2 .ensures) (omega (
         arith,
         c .before .before .before .emit-cells2 .ensures .total,
@@ -119,7 +119,7 @@ check-aggregation-spec =
                 .emit2 .ensures .total,
             c .before .before .before .before .before .before .before .before .before .before .before .emit .ensures .total,
             c .before .before .before .before .before .before .before .before .before .before .before .before .before .before .before .emit-cells .ensures .total,
-          )) (room-is (five-here (c .before .before .before .before .before .before .before .before .before .before .before .before .before .before .before .before .before)) (c .before .before .before .before .before .before .before .before .before .before .before .before .before .before .before .before .before .before .before .before .before .before .before .before .before .before .before .pre .1))))),
+          )) (room-is (five-here (c .before .before .before .before .before .before .before .before .before .before .before .before .before .before .before .before .before)) (c .before .before .before .before .before .before .before .before .before .before .before .before .before .before .before .before .before .before .before .before .before .before .before .before .before .before .pre .1))))),
     ))
     (λ c. search needs)
     returns)

@@ -23,22 +23,22 @@ use Rattle.record.proofs.access.node_at.Reads as node-at-reads
 use Rattle.cells.proofs.+emit_cells.{statement}
 use Rattle.cells.proofs.+emit_cells.Tie.{close}
 
-abbrev μ-cells : Measures 3 emit-cells-kinds.ps ℕ
-μ-cells κs a = a .1 .1 .0 .0
+abbrev μ-cells : Measures 2 emit-cells-kinds.ps ℕ
+μ-cells κs a = a .1 .0 .0
 
-abbrev cells-at : ℕ → In 3 emit-cells-kinds.ps
-cells-at t = and 3 emit-cells-kinds.ps (is 3 emit-cells-kinds.ps μ-cells t) emit-cells.Pre
+abbrev cells-at : ℕ → In 2 emit-cells-kinds.ps
+cells-at t = and 2 emit-cells-kinds.ps (is 2 emit-cells-kinds.ps μ-cells t) emit-cells.Pre
 
-abbrev cells-below : ℕ → In 3 emit-cells-kinds.ps
-cells-below t = and 3 emit-cells-kinds.ps (falls 3 emit-cells-kinds.ps _<_ μ-cells t) emit-cells.Pre
+abbrev cells-below : ℕ → In 2 emit-cells-kinds.ps
+cells-below t = and 2 emit-cells-kinds.ps (falls 2 emit-cells-kinds.ps _<_ μ-cells t) emit-cells.Pre
 
 abbrev cells-claims : ℕ → emit-cells-lts.Claims
 cells-claims t =
     (node-at-reads.Asked, node-at-reads.Learnt, emit-cell-reads.Asked, emit-cell-reads.Learnt, cells-below t, emit-cells.Post)
 
 cells-arm : (t : ℕ) (c : emit-cells-lts.After-node-at (cells-claims t) (cells-at t) emit-cells.Post) {m : Node} → c .node-at .result ≡ m
-    → Arm (now (c .before .before .before .args .bytes)) (now (c .before .before .before .args .starts)) (c .before .before .before .args .i .0) m
-cells-arm t c p = arm _ _ _ _ _ (c .before .before .before .pre .1 .0) (c .node-at .ensures) p
+    → Arm (now (c .before .before .args .columns)) (c .before .before .args .i .0) m
+cells-arm t c p = arm _ _ _ _ (c .before .before .pre .1 .0) (c .node-at .ensures) p
 
 abbrev at : ℕ → Set → List Cell → List Finding
 at rule s cs = findings (at-cells rule s cs)
@@ -57,18 +57,18 @@ pub +emit-cells-spec : {M : Type 1} → statement M
 +emit-cells-spec =
     close μ-cells
     (λ t. emit-cells-lts.spec (cells-claims t) (cells-at t) emit-cells.Post
-    (λ c κs. c .before .before .pre .1 .0)
+    (λ c κs. c .before .pre .1 .0)
     (λ c. search needs)
     (λ c κs. room-first _ _ (room-is (ap (at _ _) (next-cell (cells-arm t (c .before .before .before .before) (c .before .before .node .given .1))) ∙ cells-append _ _ _
-    _) (c .before .before .before .before .before .before .before .pre .1 .1)))
+    _) (c .before .before .before .before .before .before .pre .1 .1)))
     (λ c κs. let a = cells-arm t (c .before .before .before .before .before .before .before .before) (c .before .before .before .before .before .before .node .given .1)
-    in let d = down (a .children .0) (c .before .before .before .before .before .before .before .before .before .before .before .pre .0) in (
+    in let d = down (a .children .0) (c .before .before .before .before .before .before .before .before .before .before .pre .0) in (
       d .0,
       (
         d .1,
         room-rest
             _ _ (c .before .before .before .emit-cell .ensures) (omega (arith, c .before .before .before .emit-cell .ensures .total)) (room-is (ap (at _ _) (next-cell a) ∙
-            cells-append _ _ _ _) (c .before .before .before .before .before .before .before .before .before .before .before .pre .1 .1)),
+            cells-append _ _ _ _) (c .before .before .before .before .before .before .before .before .before .before .pre .1 .1)),
       ),
     ))
     (λ c. search needs)

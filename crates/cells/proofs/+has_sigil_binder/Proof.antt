@@ -18,32 +18,32 @@ use Rattle.slots.proofs.is_sigil.Reads as is-sigil-reads
 use Rattle.cells.proofs.+has_sigil_binder.{statement}
 use Rattle.cells.proofs.+has_sigil_binder.Tie.{close}
 
-abbrev μ-binders : Measures 2 has-sigil-binder-kinds.ps ℕ
-μ-binders κs a = a .1 .1 .0 .0
+abbrev μ-binders : Measures 1 has-sigil-binder-kinds.ps ℕ
+μ-binders κs a = a .1 .0 .0
 
-abbrev binders-at : ℕ → In 2 has-sigil-binder-kinds.ps
-binders-at t = and 2 has-sigil-binder-kinds.ps (is 2 has-sigil-binder-kinds.ps μ-binders t) has-sigil-binder.Pre
+abbrev binders-at : ℕ → In 1 has-sigil-binder-kinds.ps
+binders-at t = and 1 has-sigil-binder-kinds.ps (is 1 has-sigil-binder-kinds.ps μ-binders t) has-sigil-binder.Pre
 
-abbrev binders-below : ℕ → In 2 has-sigil-binder-kinds.ps
-binders-below t = and 2 has-sigil-binder-kinds.ps (falls 2 has-sigil-binder-kinds.ps _<_ μ-binders t) has-sigil-binder.Pre
+abbrev binders-below : ℕ → In 1 has-sigil-binder-kinds.ps
+binders-below t = and 1 has-sigil-binder-kinds.ps (falls 1 has-sigil-binder-kinds.ps _<_ μ-binders t) has-sigil-binder.Pre
 
 abbrev binders-claims : ℕ → has-sigil-binder-lts.Claims
 binders-claims t =
     (node-at-reads.Asked, node-at-reads.Learnt, is-sigil-reads.Asked, is-sigil-reads.Learnt, binders-below t, has-sigil-binder.Post)
 
 binders-arm : (t : ℕ) (c : has-sigil-binder-lts.After-node-at (binders-claims t) (binders-at t) has-sigil-binder.Post) {m : Node} → c .node-at .result ≡ m
-    → Arm (now (c .before .before .args .bytes)) (now (c .before .before .args .starts)) (c .before .before .args .i .0) m
-binders-arm t c p = arm _ _ _ _ _ (c .before .before .pre .1) (c .node-at .ensures) p
+    → Arm (now (c .before .args .columns)) (c .before .args .i .0) m
+binders-arm t c p = arm _ _ _ _ (c .before .pre .1) (c .node-at .ensures) p
 
 pub +has-sigil-binder-spec : {M : Type 1} → statement M
 +has-sigil-binder-spec =
     close μ-binders
     (λ t. has-sigil-binder-lts.spec (binders-claims t) (binders-at t) has-sigil-binder.Post
-    (λ c κs. c .before .pre .1)
+    (λ c κs. c .pre .1)
     (λ c. search needs)
     (λ c κs. search needs)
     (λ c κs. down (binders-arm t (c .before .before .before .before .before) (c .before .before .before .node .given .1) .children .0) (c .before .before .before
-    .before .before .before .before .pre .0))
+    .before .before .before .pre .0))
     (λ c. or-taken _ (c .if1 .taken) (c .before .is-sigil .ensures) (sigil-cell (binders-arm t (c .before .before .before .before .before) (c .before .before .before
     .node .given .1))))
     (λ c. or-else (c .before .if1 .left) (c .before .before .is-sigil .ensures) (c .has-sigil-binder .ensures) (sigil-cell (binders-arm t (c .before .before .before

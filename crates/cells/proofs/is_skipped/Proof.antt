@@ -11,14 +11,14 @@ use Rattle.cells.proofs.is_skipped.Statement.{statement}
 use Rattle.cells.proofs.is_skipped.Tie as tie
 
 here : (c : tie.After-node-at) {m : Node} → c .node-at .result ≡ m
-    → Arm (now (c .before .before .args .bytes)) (now (c .before .before .args .starts)) (c .before .before .args .i .0) m
-here c p = arm _ _ _ _ _ (c .before .before .pre) (c .node-at .ensures) p
+    → Arm (now (c .before .args .columns)) (c .before .args .i .0) m
+here c p = arm _ _ _ _ (c .before .pre) (c .node-at .ensures) p
 
 pub is-skipped-spec : {M : Type 1} → statement M
 is-skipped-spec =
     tie.close
     (tie.spec
-    (λ c κs. c .before .pre)
+    (λ c κs. c .pre)
     (λ c. search needs)
     (λ c κs. search needs)
     (λ c κs. here (c .before .before .before .before .before) (c .before .before .before .node .given .1) .children .0 .has)

@@ -39,23 +39,23 @@ use Rattle.demands.proofs.+check_chain+descend_nested_chains.Lts-descen
 use Rattle.demands.proofs.+check_chain+descend_nested_chains.{statement}
 use Rattle.demands.proofs.+check_chain+descend_nested_chains.Tie.{close}
 
-abbrev μ-chain : Measures 4 check-chain-kinds.ps ℕ
-μ-chain κs a = a .1 .1 .1 .0 .0
+abbrev μ-chain : Measures 3 check-chain-kinds.ps ℕ
+μ-chain κs a = a .1 .1 .0 .0
 
-abbrev chain-at : ℕ → In 4 check-chain-kinds.ps
-chain-at t = and 4 check-chain-kinds.ps (is 4 check-chain-kinds.ps μ-chain t) check-chain.Pre
+abbrev chain-at : ℕ → In 3 check-chain-kinds.ps
+chain-at t = and 3 check-chain-kinds.ps (is 3 check-chain-kinds.ps μ-chain t) check-chain.Pre
 
-abbrev chain-below : ℕ → In 4 check-chain-kinds.ps
-chain-below t = and 4 check-chain-kinds.ps (falls 4 check-chain-kinds.ps _<_ μ-chain t) check-chain.Pre
+abbrev chain-below : ℕ → In 3 check-chain-kinds.ps
+chain-below t = and 3 check-chain-kinds.ps (falls 3 check-chain-kinds.ps _<_ μ-chain t) check-chain.Pre
 
-abbrev μ-operand : Measures 4 descend-nested-chains-kinds.ps ℕ
-μ-operand κs a = a .1 .1 .1 .0 .0
+abbrev μ-operand : Measures 3 descend-nested-chains-kinds.ps ℕ
+μ-operand κs a = a .1 .1 .0 .0
 
-abbrev operand-at : ℕ → In 4 descend-nested-chains-kinds.ps
-operand-at t = and 4 descend-nested-chains-kinds.ps (is 4 descend-nested-chains-kinds.ps μ-operand t) descend-nested-chains.Pre
+abbrev operand-at : ℕ → In 3 descend-nested-chains-kinds.ps
+operand-at t = and 3 descend-nested-chains-kinds.ps (is 3 descend-nested-chains-kinds.ps μ-operand t) descend-nested-chains.Pre
 
-abbrev operand-below : ℕ → In 4 descend-nested-chains-kinds.ps
-operand-below t = and 4 descend-nested-chains-kinds.ps (falls 4 descend-nested-chains-kinds.ps _<_ μ-operand t) descend-nested-chains.Pre
+abbrev operand-below : ℕ → In 3 descend-nested-chains-kinds.ps
+operand-below t = and 3 descend-nested-chains-kinds.ps (falls 3 descend-nested-chains-kinds.ps _<_ μ-operand t) descend-nested-chains.Pre
 
 abbrev chain-claims : ℕ → check-chain-lts.Claims
 chain-claims t = (
@@ -92,23 +92,23 @@ operand-claims t = (
 )
 
 chain-arm : (t : ℕ) (c : check-chain-lts.After-node-at (chain-claims t) (chain-at t) check-chain.Post) {m : Node} → c .node-at .result ≡ m
-    → Arm (now (c .before .before .before .before .before .args .bytes)) (now (c .before .before .before .before .before .args .starts)) (c .before .before .before .before .before .args .i .0) m
-chain-arm t c p = arm _ _ _ _ _ (c .before .before .before .before .before .pre .1 .0 .0) (c .node-at .ensures) p
+    → Arm (now (c .before .before .before .before .args .columns)) (c .before .before .before .before .args .i .0) m
+chain-arm t c p = arm _ _ _ _ (c .before .before .before .before .pre .1 .0 .0) (c .node-at .ensures) p
 
 operand-arm : (t : ℕ) (c : descend-nested-chains-lts.After-node-at (operand-claims t) (operand-at t) descend-nested-chains.Post) {m : Node} → c .node-at .result ≡ m
-    → Arm (now (c .before .before .before .args .bytes)) (now (c .before .before .before .args .starts)) (c .before .before .before .args .i .0) m
-operand-arm t c p = arm _ _ _ _ _ (c .before .before .before .pre .1 .0 .0) (c .node-at .ensures) p
+    → Arm (now (c .before .before .args .columns)) (c .before .before .args .i .0) m
+operand-arm t c p = arm _ _ _ _ (c .before .before .pre .1 .0 .0) (c .node-at .ensures) p
 
 -- where the walk goes on: the node, what it is said to be, and the room after the condition's own entries
 module _ (t : ℕ) (c : check-chain-lts.After-entered-below (chain-claims t) (chain-at t) check-chain.Post) where
-  here : let s = c .before .before .before .before .before .before .before .before .before .before .args in Arm (now (s .bytes)) (now (s .starts)) (s .i .0) (c .before .before .before .before .before .node-at .result)
+  here : let s = c .before .before .before .before .before .before .before .before .before .args in Arm (now (s .columns)) (s .i .0) (c .before .before .before .before .before .node-at .result)
   here = chain-arm t (c .before .before .before .before .before) refl
 
   told : {s : Below} → c .entered-below .result ≡ s → s ≡ entered-below (c .before .before .before .before .before .node-at .result)
   told p = sym p ∙ c .entered-below .ensures
 
-  room : let s = c .before .before .before .before .before .before .before .before .before .before .args in Room (below-it (condition-of (now (s .bytes)) (s .i .0)) (mem (s .tied))) (c .before .before .before .check-own-demands .result)
-  room = room-below _ _ _ (c .before .before .before .check-own-demands .ensures) (c .before .before .before .before .before .before .before .before .before .before .pre .1 .1)
+  room : let s = c .before .before .before .before .before .before .before .before .before .args in Room (below-it (condition-of (now (s .columns)) (s .i .0)) (mem (s .tied))) (c .before .before .before .check-own-demands .result)
+  room = room-below _ _ _ (c .before .before .before .check-own-demands .ensures) (c .before .before .before .before .before .before .before .before .before .pre .1 .1)
 
 aggregate : (t : ℕ) (c : descend-nested-chains-lts.At-match-came (operand-claims t) (operand-at t) descend-nested-chains.Post)
     → Aggregate (c .match .binders) (c .match .body) (c .before .node-at .result)
@@ -162,24 +162,24 @@ pub +check-chain+descend-nested-chains-spec : {M : Type 1} → statement M
 +check-chain+descend-nested-chains-spec =
     close μ-chain μ-operand
     (λ t. check-chain-lts.spec (chain-claims t) (chain-at t) check-chain.Post
-    (λ c κs. let s = c .before .before .pre .1 .0 in (s .0 .1, s .1, s .2))
+    (λ c κs. let s = c .before .pre .1 .0 in (s .0 .1, s .1, s .2))
     (plain-writes t)
-    (λ c κs. c .before .before .before .before .pre .1 .0 .0)
-    (λ c κs. let s = c .before .before .before .before .before .before .pre .1 in ((s .0 .0, s .0 .1), (c .before .node-at .ensures, room-own _ _ _ (s .1))))
+    (λ c κs. c .before .before .before .pre .1 .0 .0)
+    (λ c κs. let s = c .before .before .before .before .before .pre .1 in ((s .0 .0, s .0 .1), (c .before .node-at .ensures, room-own _ _ _ (s .1))))
     (λ c κs. search needs)
     (λ c. search needs)
     (λ c. search needs)
-    (λ c κs. let s = c .before .before .before .before .before .before .before .before .before .before .before .before .before .pre .1 .0 in ((s .0, s .1), c .before .before .before .before .before .before .before .before .node-at .ensures))
+    (λ c κs. let s = c .before .before .before .before .before .before .before .before .before .before .before .before .pre .1 .0 in ((s .0, s .1), c .before .before .before .before .before .before .before .before .node-at .ensures))
     (λ c κs. search needs)
-    (λ c κs. let s = c .before .before .before .before .before .before .before .before .before .before .before .before .before .before .before .before in let d = under-body (entered (told t (c .before .before .before .before .before .before) (c .before .before .before .before .below .given .1)) (here t (c .before .before .before .before .before .before))) (s .pre .0) (s .pre .1 .0 .1) in (d .0, (d .1, room-is (below-entered _ (here t (c .before .before .before .before .before .before)) (told t (c .before .before .before .before .before .before) (c .before .before .before .before .below .given .1)) (c .before .before .tied-first .ensures) refl (first-is-asked _ (here t (c .before .before .before .before .before .before)) (c .before .asked-first .ensures))) (room t (c .before .before .before .before .before .before)))))
+    (λ c κs. let s = c .before .before .before .before .before .before .before .before .before .before .before .before .before .before .before in let d = under-body (entered (told t (c .before .before .before .before .before .before) (c .before .before .before .before .below .given .1)) (here t (c .before .before .before .before .before .before))) (s .pre .0) (s .pre .1 .0 .1) in (d .0, (d .1, room-is (below-entered _ (here t (c .before .before .before .before .before .before)) (told t (c .before .before .before .before .before .before) (c .before .before .before .before .below .given .1)) (c .before .before .tied-first .ensures) refl (first-is-asked _ (here t (c .before .before .before .before .before .before)) (c .before .asked-first .ensures))) (room t (c .before .before .before .before .before .before)))))
     (λ c. search needs)
-    (λ c κs. let s = c .before .before .before .before .before .before .before .before .before .before .before .before .before .pre .1 .0 in ((s .0, s .1), c .before .before .before .before .before .before .before .before .node-at .ensures))
-    (λ c κs. let s = c .before .before .before .before .before .before .before .before .before .before .before .before .before .before .pre .1 .0 in ((s .0, s .1), c .before .before .before .before .before .before .before .before .before .node-at .ensures))
-    (λ c κs. let s = c .before .before .before .before .before .before .before .before .before .before .before .before .before .before .before .before in let d = under-body (entered (told t (c .before .before .before .before .before .before) (c .before .before .before .before .below2 .given .1)) (here t (c .before .before .before .before .before .before)) .0) (s .pre .0) (s .pre .1 .0 .1) in (d .0, (d .1, room-first _ _ (room-is (below-entered _ (here t (c .before .before .before .before .before .before)) (told t (c .before .before .before .before .before .before) (c .before .before .before .before .below2 .given .1)) (c .before .before .tied-first2 .ensures) (c .before .tied-second .ensures) refl) (room t (c .before .before .before .before .before .before))))))
-    (λ c κs. let s = c .before .before .before .before .before .before .before .before .before .before .before .before .before .before .before .before .before .before .before .before in let d = under-body (entered (told t (c .before .before .before .before .before .before .before .before .before .before) (c .before .before .before .before .before .before .before .before .below2 .given .1)) (here t (c .before .before .before .before .before .before .before .before .before .before)) .1) (s .pre .0) (s .pre .1 .0 .1) in let w = c .before .before .before .check-chain2 .ensures in (d .0, (d .1, room-rest _ _ w (le-refl _) (room-is (below-entered _ (here t (c .before .before .before .before .before .before .before .before .before .before)) (told t (c .before .before .before .before .before .before .before .before .before .before) (c .before .before .before .before .before .before .before .before .below2 .given .1)) (c .before .before .before .before .before .before .tied-first2 .ensures) (c .before .before .before .before .before .tied-second .ensures) refl) (room t (c .before .before .before .before .before .before .before .before .before .before))))))
+    (λ c κs. let s = c .before .before .before .before .before .before .before .before .before .before .before .before .pre .1 .0 in ((s .0, s .1), c .before .before .before .before .before .before .before .before .node-at .ensures))
+    (λ c κs. let s = c .before .before .before .before .before .before .before .before .before .before .before .before .before .pre .1 .0 in ((s .0, s .1), c .before .before .before .before .before .before .before .before .before .node-at .ensures))
+    (λ c κs. let s = c .before .before .before .before .before .before .before .before .before .before .before .before .before .before .before in let d = under-body (entered (told t (c .before .before .before .before .before .before) (c .before .before .before .before .below2 .given .1)) (here t (c .before .before .before .before .before .before)) .0) (s .pre .0) (s .pre .1 .0 .1) in (d .0, (d .1, room-first _ _ (room-is (below-entered _ (here t (c .before .before .before .before .before .before)) (told t (c .before .before .before .before .before .before) (c .before .before .before .before .below2 .given .1)) (c .before .before .tied-first2 .ensures) (c .before .tied-second .ensures) refl) (room t (c .before .before .before .before .before .before))))))
+    (λ c κs. let s = c .before .before .before .before .before .before .before .before .before .before .before .before .before .before .before .before .before .before .before in let d = under-body (entered (told t (c .before .before .before .before .before .before .before .before .before .before) (c .before .before .before .before .before .before .before .before .below2 .given .1)) (here t (c .before .before .before .before .before .before .before .before .before .before)) .1) (s .pre .0) (s .pre .1 .0 .1) in let w = c .before .before .before .check-chain2 .ensures in (d .0, (d .1, room-rest _ _ w (le-refl _) (room-is (below-entered _ (here t (c .before .before .before .before .before .before .before .before .before .before)) (told t (c .before .before .before .before .before .before .before .before .before .before) (c .before .before .before .before .before .before .before .before .below2 .given .1)) (c .before .before .before .before .before .before .tied-first2 .ensures) (c .before .before .before .before .before .tied-second .ensures) refl) (room t (c .before .before .before .before .before .before .before .before .before .before))))))
     (λ c. search needs)
-    (λ c κs. let s = c .before .before .before .before .before .before .before .before .before .before .before .before .before .before in let d = under (entered (told t (c .before .before .before .before) (c .before .before .below3 .given .1)) (here t (c .before .before .before .before)) .0) (s .pre .0) (s .pre .1 .0 .1) in (d .0, (d .1, room-first _ _ (room-is (below-entered _ (here t (c .before .before .before .before)) (told t (c .before .before .before .before) (c .before .before .below3 .given .1)) refl refl refl) (room t (c .before .before .before .before))))))
-    (λ c κs. let s = c .before .before .before .before .before .before .before .before .before .before .before .before .before .before .before .before .before .before in let d = under (entered (told t (c .before .before .before .before .before .before .before .before) (c .before .before .before .before .before .before .below3 .given .1)) (here t (c .before .before .before .before .before .before .before .before)) .1) (s .pre .0) (s .pre .1 .0 .1) in let w = c .before .before .before .descend-nested-chains .ensures in (d .0, (d .1, room-rest _ _ w (le-refl _) (room-is (below-entered _ (here t (c .before .before .before .before .before .before .before .before)) (told t (c .before .before .before .before .before .before .before .before) (c .before .before .before .before .before .before .below3 .given .1)) refl refl refl) (room t (c .before .before .before .before .before .before .before .before))))))
+    (λ c κs. let s = c .before .before .before .before .before .before .before .before .before .before .before .before .before in let d = under (entered (told t (c .before .before .before .before) (c .before .before .below3 .given .1)) (here t (c .before .before .before .before)) .0) (s .pre .0) (s .pre .1 .0 .1) in (d .0, (d .1, room-first _ _ (room-is (below-entered _ (here t (c .before .before .before .before)) (told t (c .before .before .before .before) (c .before .before .below3 .given .1)) refl refl refl) (room t (c .before .before .before .before))))))
+    (λ c κs. let s = c .before .before .before .before .before .before .before .before .before .before .before .before .before .before .before .before .before in let d = under (entered (told t (c .before .before .before .before .before .before .before .before) (c .before .before .before .before .before .before .below3 .given .1)) (here t (c .before .before .before .before .before .before .before .before)) .1) (s .pre .0) (s .pre .1 .0 .1) in let w = c .before .before .before .descend-nested-chains .ensures in (d .0, (d .1, room-rest _ _ w (le-refl _) (room-is (below-entered _ (here t (c .before .before .before .before .before .before .before .before)) (told t (c .before .before .before .before .before .before .before .before) (c .before .before .before .before .before .before .below3 .given .1)) refl refl refl) (room t (c .before .before .before .before .before .before .before .before))))))
     (λ c. search needs)
     (nothing-writes t)
     (λ c. search needs)
@@ -189,31 +189,31 @@ pub +check-chain+descend-nested-chains-spec : {M : Type 1} → statement M
     (λ c. search needs)
     (operands-writes t))
     (λ t. descend-nested-chains-lts.spec (operand-claims t) (operand-at t) descend-nested-chains.Post
-    (λ c κs. c .before .before .pre .1 .0 .0)
+    (λ c κs. c .before .pre .1 .0 .0)
     (λ c. search needs)
-    (λ c κs. let a = operand-arm t (c .before .before .before .before) (c .before .before .node .given .1) in let d = under (a .children .0) (c .before .before .before .before .before .before .before .pre .0) (c .before .before .before .before .before .before .before .pre .1 .0 .1) in (
+    (λ c κs. let a = operand-arm t (c .before .before .before .before) (c .before .before .node .given .1) in let d = under (a .children .0) (c .before .before .before .before .before .before .pre .0) (c .before .before .before .before .before .before .pre .1 .0 .1) in (
       d .0,
       (
         d .1,
-        room-first _ _ (room-is (operand-arith _ a) (c .before .before .before .before .before .before .before .pre .1 .1)),
+        room-first _ _ (room-is (operand-arith _ a) (c .before .before .before .before .before .before .pre .1 .1)),
       ),
     ))
-    (λ c κs. let a = operand-arm t (c .before .before .before .before .before .before .before .before) (c .before .before .before .before .before .before .node .given .1) in let d = under (a .children .1 .0) (c .before .before .before .before .before .before .before .before .before .before .before .pre .0) (c .before .before .before .before .before .before .before .before .before .before .before .pre .1 .0 .1) in (
+    (λ c κs. let a = operand-arm t (c .before .before .before .before .before .before .before .before) (c .before .before .before .before .before .before .node .given .1) in let d = under (a .children .1 .0) (c .before .before .before .before .before .before .before .before .before .before .pre .0) (c .before .before .before .before .before .before .before .before .before .before .pre .1 .0 .1) in (
       d .0,
       (
         d .1,
         room-rest _ _ (c .before .before .before .descend-nested-chains .ensures) (omega (arith, c .before .before .before .descend-nested-chains .ensures .total))
-            (room-is (operand-arith _ a) (c .before .before .before .before .before .before .before .before .before .before .before .pre .1 .1)),
+            (room-is (operand-arith _ a) (c .before .before .before .before .before .before .before .before .before .before .pre .1 .1)),
       ),
     ))
     (λ c. search needs)
     (λ c. search needs)
     (λ c κs. of-aggregate (aggregate t (c)) (operand-arm t (c .before) refl) .0 .has)
-    (λ c κs. let a = operand-arm t (c .before .before .before) refl in let d = under-body (of-aggregate (aggregate t (c .before .before)) a .1) (c .before .before .before .before .before .before .pre .0) (c .before .before .before .before .before .before .pre .1 .0 .1) in (
+    (λ c κs. let a = operand-arm t (c .before .before .before) refl in let d = under-body (of-aggregate (aggregate t (c .before .before)) a .1) (c .before .before .before .before .before .pre .0) (c .before .before .before .before .before .pre .1 .0 .1) in (
       d .0,
       (
         d .1,
-        room-is (operand-aggregate _ (aggregate t (c .before .before)) a (c .before .without-binders .ensures)) (c .before .before .before .before .before .before .pre .1 .1),
+        room-is (operand-aggregate _ (aggregate t (c .before .before)) a (c .before .without-binders .ensures)) (c .before .before .before .before .before .pre .1 .1),
       ),
     ))
     (λ c. search needs)

@@ -39,21 +39,21 @@ Gathers t l b m =
     × (own t m ≡ loose (bound (known-of (t (b .0))) (binder-names (as-binders (t (l .0))))))
     × (references m ≡ (binders, l .0) ∷ (condition, b .0) ∷ [])
 
-gathers : (c : tie.At-match-came) → Gathers (tree-of (now (c .before .before .args .bytes))) (c .match .list) (c .match .b) (c .before .before .args .node)
+gathers : (c : tie.At-match-came) → Gathers (tree-of (now (c .before .args .columns))) (c .match .list) (c .match .b) (c .before .args .node)
 unfolding own parts-of
 gathers c =
     ⊎-elim (λ w. met₂ (Gathers _) (node.Sum (w .1 .given .0 .0)) (λ l b. (refl, refl, refl)) (w .1 .given .1) (w .3) (w .4))
     (λ w. met₂ (Gathers _) node.Count (λ l b. (refl, refl, refl)) (w .1 .given .1) (w .3) (w .4))
     (c .match .came)
 
-loosens : (c : tie.At-match-came-2) → Single (tree-of (now (c .before .before .args .bytes))) loose (c .match .b) (c .before .before .args .node)
+loosens : (c : tie.At-match-came-2) → Single (tree-of (now (c .before .args .columns))) loose (c .match .b) (c .before .args .node)
 unfolding own parts-of
 loosens c =
     ⊎-elim (λ w. met₁ (Single _ loose) node.Not (λ b. (refl, refl)) (w .1 .given .1) (w .3))
     (λ w. met₁ (Single _ loose) node.Array (λ b. (refl, refl)) (w .1 .given .1) (w .3))
     (c .match .came)
 
-passes : (c : tie.At-match-came-3) → Single (tree-of (now (c .before .before .args .bytes))) (λ k. k) (c .match .b) (c .before .before .args .node)
+passes : (c : tie.At-match-came-3) → Single (tree-of (now (c .before .args .columns))) (λ k. k) (c .match .b) (c .before .args .node)
 unfolding own parts-of
 passes c =
     ⊎-elim (λ w. met₁ (Single _ (λ k. k)) (λ b. node.Formerly b (w .1 .given .0 .1 .0)) (λ b. (refl, refl)) (w .1 .given .1) (w .3))
@@ -61,14 +61,14 @@ passes c =
     (λ w. met₁ (Single _ (λ k. k)) (node.Predicate (w .1 .given .0 .0)) (λ b. (refl, refl)) (w .1 .given .1) (w .3)))
     (c .match .came)
 
-parts-them : (c : tie.At-match-came-4) → Pair (tree-of (now (c .before .before .args .bytes))) (λ a b. apart a b none) (c .match .l) (c .match .r) (c .before .before .args .node)
+parts-them : (c : tie.At-match-came-4) → Pair (tree-of (now (c .before .args .columns))) (λ a b. apart a b none) (c .match .l) (c .match .r) (c .before .args .node)
 unfolding own parts-of
 parts-them c =
     ⊎-elim (λ w. met₂ (Pair _ (λ a b. apart a b none)) node.Or (λ l r. (refl, refl)) (w .1 .given .1) (w .3) (w .4))
     (λ w. met₂ (Pair _ (λ a b. apart a b none)) (node.Arith (w .1 .given .0 .0)) (λ l r. (refl, refl)) (w .1 .given .1) (w .3) (w .4))
     (c .match .came)
 
-joins : (c : tie.At-match-came-5) → Pair (tree-of (now (c .before .before .args .bytes))) join (c .match .l) (c .match .r) (c .before .before .args .node)
+joins : (c : tie.At-match-came-5) → Pair (tree-of (now (c .before .args .columns))) join (c .match .l) (c .match .r) (c .before .args .node)
 unfolding own parts-of
 joins c =
     ⊎-elim (λ w. met₂ (Pair _ join) node.And (λ l r. (refl, refl)) (w .1 .given .1) (w .3) (w .4))
@@ -83,7 +83,7 @@ since-facts : tie.Need-returns
 unfolding own parts-of meant
 since-facts c =
     let e = c .before .before .before .node7 .given .1 in
-    let s = sound-is e (c .before .before .before .before .before .before .pre) in
+    let s = sound-is e (c .before .before .before .before .before .pre) in
     let x = first-row s refl .1 .holds in
     let y = second-row s refl .1 .holds in
     c .apart .ensures ∙ ap₂ (λ (a b : Known). apart a b (mem (c .before .restricted-at .result))) x y
@@ -93,7 +93,7 @@ comparison-facts : tie.Need-returns-2
 unfolding own parts-of
 comparison-facts c =
     let e = c .before .before .before .node8 .given .1 in
-    let s = sound-is e (c .before .before .before .before .before .before .pre) in
+    let s = sound-is e (c .before .before .before .before .before .pre) in
     c .apart2 .ensures ∙ ap₂ (λ (a b : Known). apart a b (mem (c .before .tied-var .result))) (first-row s refl .1 .holds) (second-row s refl .1 .holds)
     ∙ ap (apart _ _) (c .before .tied-var .ensures) ∙ sym (ap (own _) e)
 
@@ -101,7 +101,7 @@ exists-facts : tie.Need-returns-3
 unfolding own parts-of
 exists-facts c =
     let e = c .before .before .before .node14 .given .1 in
-    let s = sound-is e (c .before .before .before .before .before .before .pre) in
+    let s = sound-is e (c .before .before .before .before .before .pre) in
     c .bound .ensures ∙ ap₂ bound (first-row s refl .1 .holds) (c .before .slot-name .ensures) ∙ sym (ap (own _) e)
 
 tp-facts : tie.Need-returns-4
@@ -123,25 +123,25 @@ other-facts c = c .nothing .ensures ∙ sym (nothing-own _ _ (c .before .match .
 aggregate-facts : tie.Need-returns-8
 aggregate-facts c =
     let g = gathers (c .before .before) in
-    c .gathered .ensures ∙ ap loose (ap₂ bound (first-row (c .before .before .before .before .pre) (g .0) .1 .holds) (c .before .binder-names .ensures)) ∙ sym (g .1)
+    c .gathered .ensures ∙ ap loose (ap₂ bound (first-row (c .before .before .before .pre) (g .0) .1 .holds) (c .before .binder-names .ensures)) ∙ sym (g .1)
 
 loose-facts : tie.Need-returns-9
-loose-facts c = let g = loosens (c .before) in c .loose .ensures ∙ ap loose (first-row (c .before .before .before .pre) (g .0) .1 .holds) ∙ sym (g .1)
+loose-facts c = let g = loosens (c .before) in c .loose .ensures ∙ ap loose (first-row (c .before .before .pre) (g .0) .1 .holds) ∙ sym (g .1)
 
 same-facts : tie.Need-returns-10
-same-facts c = let g = passes (c .before) in read-right (c .facts-at .ensures) (first-row (c .before .before .before .pre) (g .0) .1) ∙ sym (g .1)
+same-facts c = let g = passes (c .before) in read-right (c .facts-at .ensures) (first-row (c .before .before .pre) (g .0) .1) ∙ sym (g .1)
 
 apart-facts : tie.Need-returns-11
 apart-facts c =
     let g = parts-them (c .before .before) in
-    let s = c .before .before .before .before .pre in
+    let s = c .before .before .before .pre in
     c .apart3 .ensures ∙ ap₂ (λ (a b : Known). apart a b (mem (c .before .empty .result))) (first-row s (g .0) .1 .holds) (second-row s (g .0) .1 .holds)
     ∙ ap (apart _ _) (c .before .empty .ensures) ∙ sym (g .1)
 
 joined-facts : tie.Need-returns-12
 joined-facts c =
     let g = joins (c .before) in
-    let s = c .before .before .before .pre in
+    let s = c .before .before .pre in
     c .joined .ensures ∙ ap₂ join (first-row s (g .0) .1 .holds) (second-row s (g .0) .1 .holds) ∙ sym (g .1)
 
 pub facts-of-spec : {M : Type 1} → statement M
@@ -156,37 +156,37 @@ facts-of-spec =
     (λ c. c .match .keys5)
     (λ c. c .match .keys6)
     (λ c. c .match .keys7)
-    (λ c κs. let s = sound-is (c .before .node7 .given .1) (c .before .before .before .before .pre) in second-row s refl .0)
-    (λ c κs. let s = sound-is (c .before .before .node7 .given .1) (c .before .before .before .before .before .pre) in (first-row s refl .0, second-row s refl .0))
+    (λ c κs. let s = sound-is (c .before .node7 .given .1) (c .before .before .before .pre) in second-row s refl .0)
+    (λ c κs. let s = sound-is (c .before .before .node7 .given .1) (c .before .before .before .before .pre) in (first-row s refl .0, second-row s refl .0))
     (λ c. c .match .keys8)
-    (λ c κs. let s = sound-is (c .before .node8 .given .1) (c .before .before .before .before .pre) in (s .has .0, s .has .1 .0))
-    (λ c κs. let s = sound-is (c .before .before .node8 .given .1) (c .before .before .before .before .before .pre) in (first-row s refl .0, second-row s refl .0))
+    (λ c κs. let s = sound-is (c .before .node8 .given .1) (c .before .before .before .pre) in (s .has .0, s .has .1 .0))
+    (λ c κs. let s = sound-is (c .before .before .node8 .given .1) (c .before .before .before .before .pre) in (first-row s refl .0, second-row s refl .0))
     (λ c. c .match .keys9)
     (λ c. c .match .keys10)
     (λ c. c .match .keys11)
     (λ c. c .match .keys12)
     (λ c. c .match .keys13)
     (λ c. c .match .keys14)
-    (λ c κs. let s = sound-is (c .before .node14 .given .1) (c .before .before .before .before .pre) in slot-tabled (c .before .node14 .given .0 .0) (s .tabled))
-    (λ c κs. let s = sound-is (c .before .before .node14 .given .1) (c .before .before .before .before .before .pre) in first-row s refl .0)
+    (λ c κs. let s = sound-is (c .before .node14 .given .1) (c .before .before .before .pre) in slot-tabled (c .before .node14 .given .0 .0) (s .tabled))
+    (λ c κs. let s = sound-is (c .before .before .node14 .given .1) (c .before .before .before .before .pre) in first-row s refl .0)
     (λ c. c .match .keys15)
     (λ c. c .match .keys16)
     (λ c. c .match .keys17)
-    (λ c κs. let s = sound-is (c .before .node17 .given .1) (c .before .before .before .before .pre) in slot-tabled (c .before .node17 .given .0 .0) (s .tabled))
+    (λ c κs. let s = sound-is (c .before .node17 .given .1) (c .before .before .before .pre) in slot-tabled (c .before .node17 .given .0 .0) (s .tabled))
     (λ c κs. search needs)
     (λ c κs. search needs)
     (λ c. c .match .keys18)
-    (λ c κs. let s = sound-is (c .before .node18 .given .1) (c .before .before .before .before .pre) in s .tabled .0)
+    (λ c κs. let s = sound-is (c .before .node18 .given .1) (c .before .before .before .pre) in s .tabled .0)
     (λ c κs. search needs)
     (λ c κs. search needs)
     (λ c κs. search needs)
-    (λ c κs. first-had (c .before .before .pre) (gathers c .2))
-    (λ c κs. first-row (c .before .before .before .pre) (gathers (c .before) .0) .0)
-    (λ c κs. first-row (c .before .before .pre) (loosens c .0) .0)
-    (λ c κs. first-row (c .before .before .pre) (passes c .0) .0)
+    (λ c κs. first-had (c .before .pre) (gathers c .2))
+    (λ c κs. first-row (c .before .before .pre) (gathers (c .before) .0) .0)
+    (λ c κs. first-row (c .before .pre) (loosens c .0) .0)
+    (λ c κs. first-row (c .before .pre) (passes c .0) .0)
     (λ c κs. search needs)
-    (λ c κs. let s = c .before .before .before .pre in let g = parts-them (c .before) .0 in (first-row s g .0, second-row s g .0))
-    (λ c κs. let s = c .before .before .pre in let g = joins c .0 in (first-row s g .0, second-row s g .0))
+    (λ c κs. let s = c .before .before .pre in let g = parts-them (c .before) .0 in (first-row s g .0, second-row s g .0))
+    (λ c κs. let s = c .before .pre in let g = joins c .0 in (first-row s g .0, second-row s g .0))
     since-facts
     comparison-facts
     exists-facts

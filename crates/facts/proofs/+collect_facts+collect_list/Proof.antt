@@ -30,34 +30,34 @@ use Rattle.together.proofs.nothing.Reads as nothing-reads
 use Rattle.facts.proofs.+collect_facts+collect_list.{statement}
 use Rattle.facts.proofs.+collect_facts+collect_list.Tie.{close}
 
-abbrev μ-collect-facts : Measures 3 collect-facts-kinds.ps ℕ
-μ-collect-facts κs a = a .1 .1 .1 .0 .0
+abbrev μ-collect-facts : Measures 2 collect-facts-kinds.ps ℕ
+μ-collect-facts κs a = a .1 .1 .0 .0
 
-abbrev μ-collect-list : Measures 3 collect-list-kinds.ps ℕ
-μ-collect-list κs a = a .1 .1 .1 .0 .0
+abbrev μ-collect-list : Measures 2 collect-list-kinds.ps ℕ
+μ-collect-list κs a = a .1 .1 .0 .0
 
-abbrev collect-facts-at : ℕ → In 3 collect-facts-kinds.ps
+abbrev collect-facts-at : ℕ → In 2 collect-facts-kinds.ps
 collect-facts-at t =
-    and 3 collect-facts-kinds.ps (is 3 collect-facts-kinds.ps μ-collect-facts t) collect-facts.Pre
+    and 2 collect-facts-kinds.ps (is 2 collect-facts-kinds.ps μ-collect-facts t) collect-facts.Pre
 
-abbrev collect-facts-below : ℕ → In 3 collect-facts-kinds.ps
+abbrev collect-facts-below : ℕ → In 2 collect-facts-kinds.ps
 collect-facts-below t =
     and
-    3
+    2
     collect-facts-kinds.ps
-    (falls 3 collect-facts-kinds.ps _<_ μ-collect-facts t)
+    (falls 2 collect-facts-kinds.ps _<_ μ-collect-facts t)
     collect-facts.Pre
 
-abbrev collect-list-at : ℕ → In 3 collect-list-kinds.ps
+abbrev collect-list-at : ℕ → In 2 collect-list-kinds.ps
 collect-list-at t =
-    and 3 collect-list-kinds.ps (is 3 collect-list-kinds.ps μ-collect-list t) collect-list.Pre
+    and 2 collect-list-kinds.ps (is 2 collect-list-kinds.ps μ-collect-list t) collect-list.Pre
 
-abbrev collect-list-below : ℕ → In 3 collect-list-kinds.ps
+abbrev collect-list-below : ℕ → In 2 collect-list-kinds.ps
 collect-list-below t =
     and
-    3
+    2
     collect-list-kinds.ps
-    (falls 3 collect-list-kinds.ps _<_ μ-collect-list t)
+    (falls 2 collect-list-kinds.ps _<_ μ-collect-list t)
     collect-list.Pre
 
 abbrev claims-facts : ℕ → collect-facts-lts.Claims
@@ -69,7 +69,7 @@ claims-list t = (nothing-reads.Asked, nothing-reads.Learnt, node-at-reads.Asked,
 -- ---- a node
 
 came : (t : ℕ) (c : collect-facts-lts.At-match-came (claims-facts t) (collect-facts-at t) collect-facts.Post)
-    → Came (now (c .before .before .before .before .args .bytes)) (now (c .before .before .before .before .args .rows)) (c .match .rows) (c .before .before .node-at .result)
+    → Came (now (c .before .before .before .args .columns)) (now (c .before .before .before .args .rows)) (c .match .rows) (c .before .before .node-at .result)
 came t c =
     ⊎-elim (λ w. subst (λ (z : List (List ℕ)). Came _ _ z _) (sym (w .6)) (came-one (sym (w .1 .given .1) ∙ c .before .parts-of .ensures) refl (w .4 .ensures)))
     (⊎-elim (λ w. subst (λ (z : List (List ℕ)). Came _ _ z _) (sym (w .9)) (came-two (sym (w .1 .given .1) ∙ c .before .parts-of .ensures) refl (w .4 .ensures) (w .7 .ensures)))
@@ -79,21 +79,21 @@ came t c =
 
 leaf : (t : ℕ) → collect-facts-lts.Need-returns (claims-facts t) (collect-facts-at t) collect-facts.Post
 leaf t c =
-    let s = c .before .before .before .before .before .before .before .before in
+    let s = c .before .before .before .before .before .before .before in
     finished (s .pre .1 .0) (c .before .before .before .before .before .before .node-at .ensures) (came-none (sym (c .before .before .before .enum-told .given .1) ∙ c .before .before .before .before .before .parts-of .ensures) refl) (c .before .put-own .ensures)
 
 node : (t : ℕ) → collect-facts-lts.Need-returns-2 (claims-facts t) (collect-facts-at t) collect-facts.Post
 node t c =
-    let s = c .before .before .before .before .before .before .before in
+    let s = c .before .before .before .before .before .before in
     finished (s .pre .1 .0) (c .before .before .before .before .before .node-at .ensures) (came t (c .before .before .before)) (c .before .put-own2 .ensures)
 
 -- ---- a list
 
 abbrev Inv-loop : collect-list-lts.InvT-loop
-Inv-loop bytes starts rows₀ list at₀ all₀ rows at all = (at .0 ≤ list .0) × Along bytes starts rows₀ rows (meant all) (list .0) (at .0)
+Inv-loop columns rows₀ list at₀ all₀ rows at all = (at .0 ≤ list .0) × Along columns rows₀ rows (meant all) (list .0) (at .0)
 
 abbrev μ-loop : collect-list-lts.MeasureT-loop
-μ-loop bytes starts rows₀ list at₀ all₀ rows at all = at .0
+μ-loop columns rows₀ list at₀ all₀ rows at all = at .0
 
 cell : (t : ℕ) → collect-list-lts.Need-loop-again (claims-list t) (collect-list-at t) collect-list.Post Inv-loop μ-loop
 cell t c =
@@ -108,43 +108,43 @@ cell t c =
 
 end : (t : ℕ) → collect-list-lts.Need-returns (claims-list t) (collect-list-at t) collect-list.Post Inv-loop μ-loop
 end t c =
-    let s = c .before .before .before .before .before .before .before .before .before in
+    let s = c .before .before .before .before .before .before .before .before in
     let along = c .before .before .before .before .before .before .loop .inv .1 in
     along-end along (c .before .before .before .before .before .node-at .ensures) (c .before .before .before .before .parts-of .ensures) (c .before .before .before .match .keys2) (room (along .kept) (s .pre .1 .1)) (c .before .put-facts .ensures)
 
 pub +collect-facts+collect-list-spec : {M : Type 1} → statement M
 +collect-facts+collect-list-spec =
     close μ-collect-facts μ-collect-list (λ t. collect-facts-lts.spec (claims-facts t) (collect-facts-at t) collect-facts.Post
-    (λ c κs. c .before .pre .1 .0)
+    (λ c κs. c .pre .1 .0)
     (λ c κs. search needs)
     (λ c. search needs)
-    (λ c κs. let s = c .before .before .before .before .before .before in (((s .pre .1 .0, c .before .before .before .before .node-at .ensures)), (s .pre .1 .1, came-right (came-none (sym (c .before .enum-told .given .1) ∙ c .before .before .before .parts-of .ensures) refl))))
+    (λ c κs. let s = c .before .before .before .before .before in (((s .pre .1 .0, c .before .before .before .before .node-at .ensures)), (s .pre .1 .1, came-right (came-none (sym (c .before .enum-told .given .1) ∙ c .before .before .before .parts-of .ensures) refl))))
     (λ c. c .before .put-own .ensures .0 .long)
     (leaf t)
     (λ c. search needs)
-    (λ c κs. let s = c .before .before .before .before .before .before .before in call (node-held (s .pre .1 .0) (c .before .before .before .before .before .node-at .ensures) (sym (c .before .before .b .given .1) ∙ c .before .before .before .before .parts-of .ensures)) (s .pre .0) (s .pre .1 .1))
+    (λ c κs. let s = c .before .before .before .before .before .before in call (node-held (s .pre .1 .0) (c .before .before .before .before .before .node-at .ensures) (sym (c .before .before .b .given .1) ∙ c .before .before .before .before .parts-of .ensures)) (s .pre .0) (s .pre .1 .1))
     (λ c. search needs)
-    (λ c κs. let s = c .before .before .before .before .before .before .before in call (node-held (s .pre .1 .0) (c .before .before .before .before .before .node-at .ensures) (sym (c .before .before .l .given .1) ∙ c .before .before .before .before .parts-of .ensures) .0) (s .pre .0) (s .pre .1 .1))
-    (λ c κs. let s = c .before .before .before .before .before .before .before .before .before .before in call (node-held (s .pre .1 .0) (c .before .before .before .before .before .before .before .before .node-at .ensures) (sym (c .before .before .before .before .before .l .given .1) ∙ c .before .before .before .before .before .before .before .parts-of .ensures) .1) (s .pre .0) (room (c .before .before .collect-facts2 .ensures .kept) (s .pre .1 .1)))
+    (λ c κs. let s = c .before .before .before .before .before .before in call (node-held (s .pre .1 .0) (c .before .before .before .before .before .node-at .ensures) (sym (c .before .before .l .given .1) ∙ c .before .before .before .before .parts-of .ensures) .0) (s .pre .0) (s .pre .1 .1))
+    (λ c κs. let s = c .before .before .before .before .before .before .before .before .before in call (node-held (s .pre .1 .0) (c .before .before .before .before .before .before .before .before .node-at .ensures) (sym (c .before .before .before .before .before .l .given .1) ∙ c .before .before .before .before .before .before .before .parts-of .ensures) .1) (s .pre .0) (room (c .before .before .collect-facts2 .ensures .kept) (s .pre .1 .1)))
     (λ c. search needs)
-    (λ c κs. let s = c .before .before .before .before .before .before .before in let h = node-held (s .pre .1 .0) (c .before .before .before .before .before .node-at .ensures) (sym (c .before .before .list .given .1) ∙ c .before .before .before .before .parts-of .ensures) in call-list (h .0) (h .1) (s .pre .0) (s .pre .1 .1))
+    (λ c κs. let s = c .before .before .before .before .before .before in let h = node-held (s .pre .1 .0) (c .before .before .before .before .before .node-at .ensures) (sym (c .before .before .list .given .1) ∙ c .before .before .before .before .parts-of .ensures) in call-list (h .0) (h .1) (s .pre .0) (s .pre .1 .1))
     (λ c. search needs)
-    (λ c κs. let s = c .before .before .before .before .before .before .before in call (node-held (s .pre .1 .0) (c .before .before .before .before .before .node-at .ensures) (sym (c .before .before .b2 .given .1) ∙ c .before .before .before .before .parts-of .ensures) .0) (s .pre .0) (s .pre .1 .1))
-    (λ c κs. let s = c .before .before .before .before .before .before .before .before .before .before in let h = node-held (s .pre .1 .0) (c .before .before .before .before .before .before .before .before .node-at .ensures) (sym (c .before .before .before .before .before .b2 .given .1) ∙ c .before .before .before .before .before .before .before .parts-of .ensures) in call-list (h .1) (h .2) (s .pre .0) (room (c .before .before .collect-facts4 .ensures .kept) (s .pre .1 .1)))
-    (λ c κs. let s = c .before .before .before .before .before in let k = came t (c .before) in ((s .pre .1 .0, c .before .before .before .node-at .ensures), (room (k .kept) (s .pre .1 .1), came-right k)))
+    (λ c κs. let s = c .before .before .before .before .before .before in call (node-held (s .pre .1 .0) (c .before .before .before .before .before .node-at .ensures) (sym (c .before .before .b2 .given .1) ∙ c .before .before .before .before .parts-of .ensures) .0) (s .pre .0) (s .pre .1 .1))
+    (λ c κs. let s = c .before .before .before .before .before .before .before .before .before in let h = node-held (s .pre .1 .0) (c .before .before .before .before .before .before .before .before .node-at .ensures) (sym (c .before .before .before .before .before .b2 .given .1) ∙ c .before .before .before .before .before .before .before .parts-of .ensures) in call-list (h .1) (h .2) (s .pre .0) (room (c .before .before .collect-facts4 .ensures .kept) (s .pre .1 .1)))
+    (λ c κs. let s = c .before .before .before .before in let k = came t (c .before) in ((s .pre .1 .0, c .before .before .before .node-at .ensures), (room (k .kept) (s .pre .1 .1), came-right k)))
     (λ c. c .before .put-own2 .ensures .0 .long ∙ came t (c .before .before .before) .kept .long)
     (node t))
     λ t. collect-list-lts.spec (claims-list t) (collect-list-at t) collect-list.Post Inv-loop μ-loop
     (λ c κs. search needs)
-    (λ c. let s = c .before .before in (omega arith, along-start (c .nothing .ensures) (s .pre .1 .0) (s .pre .1 .2)))
+    (λ c. let s = c .before in (omega arith, along-start (c .nothing .ensures) (s .pre .1 .0) (s .pre .1 .2)))
     (λ c κs. c .loop .inv .1 .has)
     (λ c κs. search needs)
     (λ c. search needs)
-    (λ c κs. let s = c .before .before .before .before .before .before .before .before .before in let l = c .before .before .before .before .before .before .loop .inv in let u = parts-held (l .1) (c .before .before .before .before .before .node-at .ensures) (sym (c .before .before .t .given .1) ∙ c .before .before .before .before .parts-of .ensures) in let below = u .0 .0 in let upto = l .0 in let e = s .pre .0 in let long = room (l .1 .kept) (s .pre .1 .1) in (omega arith, (u .0 .1, omega arith)))
-    (λ c κs. let s = c .before .before .before .before .before .before .before .before .before .before .before .before in let l = c .before .before .before .before .before .before .before .before .before .loop .inv in let u = parts-held (l .1) (c .before .before .before .before .before .before .before .before .node-at .ensures) (sym (c .before .before .before .before .before .t .given .1) ∙ c .before .before .before .before .before .before .before .parts-of .ensures) in let below = u .0 .0 in let upto = l .0 in let long = room (c .before .before .collect-facts .ensures .kept) (room (l .1 .kept) (s .pre .1 .1)) in omega arith)
+    (λ c κs. let s = c .before .before .before .before .before .before .before .before in let l = c .before .before .before .before .before .before .loop .inv in let u = parts-held (l .1) (c .before .before .before .before .before .node-at .ensures) (sym (c .before .before .t .given .1) ∙ c .before .before .before .before .parts-of .ensures) in let below = u .0 .0 in let upto = l .0 in let e = s .pre .0 in let long = room (l .1 .kept) (s .pre .1 .1) in (omega arith, (u .0 .1, omega arith)))
+    (λ c κs. let s = c .before .before .before .before .before .before .before .before .before .before .before in let l = c .before .before .before .before .before .before .before .before .before .loop .inv in let u = parts-held (l .1) (c .before .before .before .before .before .before .before .before .node-at .ensures) (sym (c .before .before .before .before .before .t .given .1) ∙ c .before .before .before .before .before .before .before .parts-of .ensures) in let below = u .0 .0 in let upto = l .0 in let long = room (c .before .before .collect-facts .ensures .kept) (room (l .1 .kept) (s .pre .1 .1)) in omega arith)
     (λ c κs. search needs)
     (λ c. let l = c .before .before .before .before .before .before .before .before .before .before .before .loop .inv in let u = parts-held (l .1) (c .before .before .before .before .before .before .before .before .before .before .node-at .ensures) (sym (c .before .before .before .before .before .before .before .t .given .1) ∙ c .before .before .before .before .before .before .before .before .before .parts-of .ensures) in u .1 .0)
     (cell t)
-    (λ c κs. let s = c .before .before .before .before .before .before .before in room (c .before .before .before .before .loop .inv .1 .kept) (s .pre .1 .1))
+    (λ c κs. let s = c .before .before .before .before .before .before in room (c .before .before .before .before .loop .inv .1 .kept) (s .pre .1 .1))
     (λ c. put-long (c .before .put-facts .ensures) ∙ c .before .before .before .before .before .before .loop .inv .1 .kept .long)
     (end t)

@@ -5,11 +5,11 @@ use Rattle.facts.proofs.put_own.Statement.{statement}
 use Rattle.facts.proofs.put_own.Tie as tie
 
 facts-of-requires : tie.Need-facts-of-requires
-facts-of-requires c κs = let s = c .before .before in sound (s .pre .0 .0) (s .pre .0 .1) (s .pre .1 .0) (s .pre .1 .1)
+facts-of-requires c κs = let s = c .before in sound (s .pre .0 .0) (s .pre .0 .1) (s .pre .1 .0) (s .pre .1 .1)
 
 returns : tie.Need-returns
 returns c =
-    let s = c .before .before .before .before .before .before in
+    let s = c .before .before .before .before .before in
     own-put (s .pre .0 .0) (s .pre .0 .1) (c .before .before .before .facts-of .ensures) (s .pre .1 .0) (c .before .put-facts .ensures)
 
 pub put-own-spec : {M : Type 1} → statement M

@@ -18,12 +18,12 @@ returns-2 c =
 check-chain-requires : tie.Need-check-chain-requires
 check-chain-requires c κs =
     let asked = c .before in (
-      asked .before .before .before .before .before .pre .0,
+      asked .before .before .before .before .pre .0,
       room-is (demands-are _ (asked .empty .ensures) (sym (asked .before .before .body-has-sigil .ensures) ∙ asked .before .if1 .left))
-          (asked .before .before .before .before .before .pre .1),
+          (asked .before .before .before .before .pre .1),
     )
 
 pub check-demands-spec : {M : Type 1} → statement M
 check-demands-spec =
     tie.close
-    (tie.spec (λ c κs. let s = c .before .before .pre .0 in (s .0 .1, s .1, s .2)) returns (λ c κs. search needs) check-chain-requires (λ c. search needs) returns-2)
+    (tie.spec (λ c κs. let s = c .before .pre .0 in (s .0 .1, s .1, s .2)) returns (λ c κs. search needs) check-chain-requires (λ c. search needs) returns-2)

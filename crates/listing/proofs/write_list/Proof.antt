@@ -18,18 +18,18 @@ write-list-spec =
     (tie.spec
     (λ c κs. search needs)
     (λ c κs. (
-      c .before .before .before .before .pre .0,
-      room-first _ _ (room-is (listed-are _ _ _ (c .before .empty .ensures)) (c .before .before .before .before .pre
+      c .before .before .before .pre .0,
+      room-first _ _ (room-is (listed-are _ _ _ (c .before .empty .ensures)) (c .before .before .before .pre
           .1)),
     ))
     (λ c κs. (
-      (let s = c .before .before .before .before .before .before .before .before .pre .0 in (s .0 .1, s .1, s .2)),
+      (let s = c .before .before .before .before .before .before .before .pre .0 in (s .0 .1, s .1, s .2)),
       room-first _ _ (room-rest _ _ (c .before .before .before .check-condition
           .ensures) (omega (arith, c .before .before .before .check-condition .ensures .total)) (room-is (listed-are _ _ _ (c .before .before .before .before .before
-          .empty .ensures)) (c .before .before .before .before .before .before .before .before .pre .1))),
+          .empty .ensures)) (c .before .before .before .before .before .before .before .pre .1))),
     ))
     (λ c κs. (
-      c .before .before .before .before .before .before .before .before .before .before .before .before .pre .0,
+      c .before .before .before .before .before .before .before .before .before .before .before .pre .0,
       room-rest _ _ (c .before .before .before
           .check-leaf-closed .ensures) (omega (
             arith,
@@ -43,7 +43,7 @@ write-list-spec =
             c .before .before .before .before .before .before .before .check-condition .ensures .total,
           ))
           (room-is (listed-are _ _ _ (c .before .before .before .before .before .before .before .before .before .empty .ensures)) (c .before .before .before .before
-          .before .before .before .before .before .before .before .before .pre .1))),
+          .before .before .before .before .before .before .before .pre .1))),
     ))
     (λ c. search needs)
     returns)

@@ -11,44 +11,44 @@ use Rattle.owed.proofs.DemandLaws.{owed-comparison, owed-not, owed-sinc
 use Rattle.owed.proofs.check_conjunct_demands.Statement.{statement}
 use Rattle.owed.proofs.check_conjunct_demands.Tie as tie
 
-here : (c : tie.Start) {m : Node} → c .args .node ≡ m → Arm (now (c .args .bytes)) (now (c .args .starts)) (c .args .i .0) m
-here c p = arm _ _ _ _ _ (c .pre .0 .0) (c .pre .1 .0) p
+here : (c : tie.Start) {m : Node} → c .args .node ≡ m → Arm (now (c .args .columns)) (c .args .i .0) m
+here c p = arm _ _ _ _ (c .pre .0 .0) (c .pre .1 .0) p
 
 comparison-writes : tie.Need-returns
 comparison-writes c =
-    let a = here (c .before .before .before .before .before .before .before .before .before .before .before .before) (c .before .before .before .before .before .before .before .before .node .given .1) in
+    let a = here (c .before .before .before .before .before .before .before .before .before .before .before) (c .before .before .before .before .before .before .before .before .node .given .1) in
     wrote-is (owed-comparison _ a (c .before .before .before .before .before .before .eq-restricted-var .ensures) (c .before .before .before .before .before .collect-term-var .ensures) (c .before .before .before .before .collect-term-var2 .ensures)) (c .before .before .check-comparison-demands .ensures)
 
 not-writes : tie.Need-returns-2
 not-writes c =
-    wrote-is (owed-not _ (here (c .before .before .before .before .before .before .before .before .before .before) (c .before .before .before .before .before .before .node2 .given .1)) (c .before .before .before .before .collect-free .ensures)) (c .before .before .reject-unmet-var .ensures)
+    wrote-is (owed-not _ (here (c .before .before .before .before .before .before .before .before .before) (c .before .before .before .before .before .before .node2 .given .1)) (c .before .before .before .before .collect-free .ensures)) (c .before .before .reject-unmet-var .ensures)
 
 since-writes : tie.Need-returns-3
 since-writes c =
     let known = c .before .before .before .before .union .ensures ∙ ap₂ _∪_ refl (c .before .before .before .before .before .collect-range-restricted .ensures) in
-    wrote-is (owed-since _ (here (c .before .before .before .before .before .before .before .before .before .before .before .before) (c .before .before .before .before .before .before .before .before .node3 .given .1)) (c .before .before .before .before .before .before .collect-free2 .ensures) known) (c .before .before .reject-unmet-var2 .ensures)
+    wrote-is (owed-since _ (here (c .before .before .before .before .before .before .before .before .before .before .before) (c .before .before .before .before .before .before .before .before .node3 .given .1)) (c .before .before .before .before .before .before .collect-free2 .ensures) known) (c .before .before .reject-unmet-var2 .ensures)
 
 other-writes : tie.Need-returns-4
 other-writes c =
-    wrote-is (owed-none _ (here (c .before .before .before) refl) (c .match .keys4)) wrote-none
+    wrote-is (owed-none _ (here (c .before .before) refl) (c .match .keys4)) wrote-none
 
 pub check-conjunct-demands-spec : {M : Type 1} → statement M
 check-conjunct-demands-spec =
     tie.close
     (tie.spec
     (λ c. search needs)
-    (λ c κs. let a = here (c .before .before .before .before .before) (c .before .node .given .1) in (a .children .0 .has, a .children .1 .0 .has))
-    (λ c κs. term-row (here (c .before .before .before .before .before .before) (c .before .before .node .given .1) .children .0) (c .before .before .before .before .before .before .pre .0 .1))
-    (λ c κs. term-row (here (c .before .before .before .before .before .before .before) (c .before .before .before .node .given .1) .children .1 .0) (c .before .before .before .before .before .before .before .pre .0 .1))
-    (λ c κs. room-is (owed-comparison _ (here (c .before .before .before .before .before .before .before .before .before) (c .before .before .before .before .before .node .given .1)) (c .before .before .before .eq-restricted-var .ensures) (c .before .before .collect-term-var .ensures) (c .before .collect-term-var2 .ensures)) (c .before .before .before .before .before .before .before .before .before .pre .1 .1))
+    (λ c κs. let a = here (c .before .before .before .before) (c .before .node .given .1) in (a .children .0 .has, a .children .1 .0 .has))
+    (λ c κs. term-row (here (c .before .before .before .before .before) (c .before .before .node .given .1) .children .0) (c .before .before .before .before .before .pre .0 .1))
+    (λ c κs. term-row (here (c .before .before .before .before .before .before) (c .before .before .before .node .given .1) .children .1 .0) (c .before .before .before .before .before .before .pre .0 .1))
+    (λ c κs. room-is (owed-comparison _ (here (c .before .before .before .before .before .before .before .before) (c .before .before .before .before .before .node .given .1)) (c .before .before .before .eq-restricted-var .ensures) (c .before .before .collect-term-var .ensures) (c .before .collect-term-var2 .ensures)) (c .before .before .before .before .before .before .before .before .pre .1 .1))
     (λ c. search needs)
-    (λ c κs. body-row (here (c .before .before .before .before .before) (c .before .node2 .given .1) .children .0) (c .before .before .before .before .before .pre .0 .1))
-    (λ c κs. room-is (owed-not _ (here (c .before .before .before .before .before .before .before) (c .before .before .before .node2 .given .1)) (c .before .collect-free .ensures)) (c .before .before .before .before .before .before .before .pre .1 .1))
+    (λ c κs. body-row (here (c .before .before .before .before) (c .before .node2 .given .1) .children .0) (c .before .before .before .before .pre .0 .1))
+    (λ c κs. room-is (owed-not _ (here (c .before .before .before .before .before .before) (c .before .before .before .node2 .given .1)) (c .before .collect-free .ensures)) (c .before .before .before .before .before .before .pre .1 .1))
     (λ c. search needs)
-    (λ c κs. body-row (here (c .before .before .before .before .before) (c .before .node3 .given .1) .children .0) (c .before .before .before .before .before .pre .0 .1))
-    (λ c κs. body-row (here (c .before .before .before .before .before .before) (c .before .before .node3 .given .1) .children .1 .0) (c .before .before .before .before .before .before .pre .0 .1))
+    (λ c κs. body-row (here (c .before .before .before .before) (c .before .node3 .given .1) .children .0) (c .before .before .before .before .pre .0 .1))
+    (λ c κs. body-row (here (c .before .before .before .before .before) (c .before .before .node3 .given .1) .children .1 .0) (c .before .before .before .before .before .pre .0 .1))
     (λ c κs. search needs)
-    (λ c κs. room-is (owed-since _ (here (c .before .before .before .before .before .before .before .before .before) (c .before .before .before .before .before .node3 .given .1)) (c .before .before .before .collect-free2 .ensures) (c .before .union .ensures ∙ ap₂ _∪_ refl (c .before .before .collect-range-restricted .ensures))) (c .before .before .before .before .before .before .before .before .before .pre .1 .1))
+    (λ c κs. room-is (owed-since _ (here (c .before .before .before .before .before .before .before .before) (c .before .before .before .before .before .node3 .given .1)) (c .before .before .before .collect-free2 .ensures) (c .before .union .ensures ∙ ap₂ _∪_ refl (c .before .before .collect-range-restricted .ensures))) (c .before .before .before .before .before .before .before .before .pre .1 .1))
     (λ c. search needs)
     comparison-writes
     (λ c. search needs)

@@ -10,18 +10,18 @@ use Rattle.owed.proofs.DemandLaws.{first-since, first-exists, first-sam
 use Rattle.owed.proofs.tied_first.Statement.{statement}
 use Rattle.owed.proofs.tied_first.Tie as tie
 
-here : (c : tie.Start) {m : Node} → c .args .node ≡ m → Arm (now (c .args .bytes)) (now (c .args .starts)) (c .args .i .0) m
-here c p = arm _ _ _ _ _ (c .pre .0 .0) (c .pre .1) p
+here : (c : tie.Start) {m : Node} → c .args .node ≡ m → Arm (now (c .args .columns)) (c .args .i .0) m
+here c p = arm _ _ _ _ (c .pre .0 .0) (c .pre .1) p
 
 pub tied-first-spec : {M : Type 1} → statement M
 tied-first-spec =
     tie.close
     (tie.spec
     (λ c. search needs)
-    (λ c κs. body-row (here (c .before .before .before .before) (c .before .node .given .1) .children .1 .0) (c .before .before .before .before .pre .0 .1))
+    (λ c κs. body-row (here (c .before .before .before) (c .before .node .given .1) .children .1 .0) (c .before .before .before .pre .0 .1))
     (λ c κs. search needs)
     (λ c. search needs)
-    (λ c κs. slot-tabled (c .before .node2 .given .0 .0) (here (c .before .before .before .before) (c .before .node2 .given .1) .tabled))
-    (λ c. first-since _ (here (c .before .before .before .before .before .before) (c .before .before .before .node .given .1)) (c .before .collect-range-restricted .ensures) (c .union .ensures))
-    (λ c. first-exists _ (here (c .before .before .before .before .before) (c .before .before .node2 .given .1)) (c .without-slot .ensures))
-    (λ c. first-same _ (here (c .before .before) refl) (c .match .keys3)))
+    (λ c κs. slot-tabled (c .before .node2 .given .0 .0) (here (c .before .before .before) (c .before .node2 .given .1) .tabled))
+    (λ c. first-since _ (here (c .before .before .before .before .before) (c .before .before .before .node .given .1)) (c .before .collect-range-restricted .ensures) (c .union .ensures))
+    (λ c. first-exists _ (here (c .before .before .before .before) (c .before .before .node2 .given .1)) (c .without-slot .ensures))
+    (λ c. first-same _ (here (c .before) refl) (c .match .keys3)))

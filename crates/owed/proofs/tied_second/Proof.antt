@@ -9,15 +9,15 @@ use Rattle.owed.proofs.DemandLaws.{second-and, second-same}
 use Rattle.owed.proofs.tied_second.Statement.{statement}
 use Rattle.owed.proofs.tied_second.Tie as tie
 
-here : (c : tie.Start) {m : Node} → c .args .node ≡ m → Arm (now (c .args .bytes)) (now (c .args .starts)) (c .args .i .0) m
-here c p = arm _ _ _ _ _ (c .pre .0 .0) (c .pre .1) p
+here : (c : tie.Start) {m : Node} → c .args .node ≡ m → Arm (now (c .args .columns)) (c .args .i .0) m
+here c p = arm _ _ _ _ (c .pre .0 .0) (c .pre .1) p
 
 pub tied-second-spec : {M : Type 1} → statement M
 tied-second-spec =
     tie.close
     (tie.spec
     (λ c. search needs)
-    (λ c κs. body-row (here (c .before .before .before .before) (c .before .node .given .1) .children .0) (c .before .before .before .before .pre .0 .1))
+    (λ c κs. body-row (here (c .before .before .before) (c .before .node .given .1) .children .0) (c .before .before .before .pre .0 .1))
     (λ c κs. search needs)
-    (λ c. second-and _ (here (c .before .before .before .before .before .before) (c .before .before .before .node .given .1)) (c .before .collect-range-restricted .ensures) (c .union .ensures))
-    (λ c. second-same _ (here (c .before .before) refl) (c .match .keys2)))
+    (λ c. second-and _ (here (c .before .before .before .before .before) (c .before .before .before .node .given .1)) (c .before .collect-range-restricted .ensures) (c .union .ensures))
+    (λ c. second-same _ (here (c .before) refl) (c .match .keys2)))

@@ -38,23 +38,23 @@ use Rattle.rows.proofs.read.is_plain.Reads as is-plain-reads
 use Rattle.scoping.proofs.+check_condition+check_operand.{statement}
 use Rattle.scoping.proofs.+check_condition+check_operand.Tie.{close}
 
-abbrev μ-condition : Measures 4 check-condition-kinds.ps ℕ
-μ-condition κs a = a .1 .1 .1 .0 .0
+abbrev μ-condition : Measures 3 check-condition-kinds.ps ℕ
+μ-condition κs a = a .1 .1 .0 .0
 
-abbrev condition-at : ℕ → In 4 check-condition-kinds.ps
-condition-at t = and 4 check-condition-kinds.ps (is 4 check-condition-kinds.ps μ-condition t) check-condition.Pre
+abbrev condition-at : ℕ → In 3 check-condition-kinds.ps
+condition-at t = and 3 check-condition-kinds.ps (is 3 check-condition-kinds.ps μ-condition t) check-condition.Pre
 
-abbrev condition-below : ℕ → In 4 check-condition-kinds.ps
-condition-below t = and 4 check-condition-kinds.ps (falls 4 check-condition-kinds.ps _<_ μ-condition t) check-condition.Pre
+abbrev condition-below : ℕ → In 3 check-condition-kinds.ps
+condition-below t = and 3 check-condition-kinds.ps (falls 3 check-condition-kinds.ps _<_ μ-condition t) check-condition.Pre
 
-abbrev μ-operand : Measures 4 check-operand-kinds.ps ℕ
-μ-operand κs a = a .1 .1 .1 .0 .0
+abbrev μ-operand : Measures 3 check-operand-kinds.ps ℕ
+μ-operand κs a = a .1 .1 .0 .0
 
-abbrev operand-at : ℕ → In 4 check-operand-kinds.ps
-operand-at t = and 4 check-operand-kinds.ps (is 4 check-operand-kinds.ps μ-operand t) check-operand.Pre
+abbrev operand-at : ℕ → In 3 check-operand-kinds.ps
+operand-at t = and 3 check-operand-kinds.ps (is 3 check-operand-kinds.ps μ-operand t) check-operand.Pre
 
-abbrev operand-below : ℕ → In 4 check-operand-kinds.ps
-operand-below t = and 4 check-operand-kinds.ps (falls 4 check-operand-kinds.ps _<_ μ-operand t) check-operand.Pre
+abbrev operand-below : ℕ → In 3 check-operand-kinds.ps
+operand-below t = and 3 check-operand-kinds.ps (falls 3 check-operand-kinds.ps _<_ μ-operand t) check-operand.Pre
 
 abbrev condition-claims : ℕ → check-condition-lts.Claims
 condition-claims t = (
@@ -93,16 +93,16 @@ operand-claims t = (
 )
 
 condition-arm : (t : ℕ) (c : check-condition-lts.After-node-at (condition-claims t) (condition-at t) check-condition.Post) {m : Node} → c .node-at .result ≡ m
-    → Arm (now (c .before .before .before .before .before .args .bytes)) (now (c .before .before .before .before .before .args .starts)) (c .before .before .before .before .before .args .i .0) m
-condition-arm t c p = arm _ _ _ _ _ (c .before .before .before .before .before .pre .1 .0 .0) (c .node-at .ensures) p
+    → Arm (now (c .before .before .before .before .args .columns)) (c .before .before .before .before .args .i .0) m
+condition-arm t c p = arm _ _ _ _ (c .before .before .before .before .pre .1 .0 .0) (c .node-at .ensures) p
 
 operand-arm : (t : ℕ) (c : check-operand-lts.After-node-at (operand-claims t) (operand-at t) check-operand.Post) {m : Node} → c .node-at .result ≡ m
-    → Arm (now (c .before .before .before .args .bytes)) (now (c .before .before .before .args .starts)) (c .before .before .before .args .i .0) m
-operand-arm t c p = arm _ _ _ _ _ (c .before .before .before .pre .1 .0 .0) (c .node-at .ensures) p
+    → Arm (now (c .before .before .args .columns)) (c .before .before .args .i .0) m
+operand-arm t c p = arm _ _ _ _ (c .before .before .pre .1 .0 .0) (c .node-at .ensures) p
 
 -- where the walk goes on: the node, and what it is said to be
 module _ (t : ℕ) (c : check-condition-lts.After-entered-below (condition-claims t) (condition-at t) check-condition.Post) where
-  here : let s = c .before .before .before .before .before .before .before .before .before .before .args in Arm (now (s .bytes)) (now (s .starts)) (s .i .0) (c .before .before .before .before .before .node-at .result)
+  here : let s = c .before .before .before .before .before .before .before .before .before .args in Arm (now (s .columns)) (s .i .0) (c .before .before .before .before .before .node-at .result)
   here = condition-arm t (c .before .before .before .before .before) refl
 
   told : {s : Below} → c .entered-below .result ≡ s → s ≡ entered-below (c .before .before .before .before .before .node-at .result)
@@ -159,21 +159,21 @@ pub +check-condition+check-operand-spec : {M : Type 1} → statement M
 +check-condition+check-operand-spec =
     close μ-condition μ-operand
     (λ t. check-condition-lts.spec (condition-claims t) (condition-at t) check-condition.Post
-    (λ c κs. let s = c .before .before .pre .1 .0 in (s .0 .1, s .1, s .2))
+    (λ c κs. let s = c .before .pre .1 .0 in (s .0 .1, s .1, s .2))
     (λ c. wrote-is (plain-scoped _ _ _ (sym (c .before .is-plain .ensures) ∙ c .if1 .taken)) wrote-none)
-    (λ c κs. c .before .before .before .before .pre .1 .0 .0)
-    (λ c κs. let s = c .before .before .before .before .before .before .pre .1 in ((s .0 .0, s .0 .1), (c .before .node-at .ensures, room-first _ _ (room-is (scoped-entered _ _ (condition-arm t (c .before) refl) refl refl) (s .1)))))
+    (λ c κs. c .before .before .before .pre .1 .0 .0)
+    (λ c κs. let s = c .before .before .before .before .before .pre .1 in ((s .0 .0, s .0 .1), (c .before .node-at .ensures, room-first _ _ (room-is (scoped-entered _ _ (condition-arm t (c .before) refl) refl refl) (s .1)))))
     (λ c κs. search needs)
     (λ c. search needs)
     (λ c. search needs)
     (λ c κs. here t (c .before .before .before) .tabled)
-    (λ c κs. let s = c .before .before .before .before .before .before .before .before .before .before .before .before .before .before .before in let d = under-body (entered (told t (c .before .before .before .before .before) (c .before .before .before .below .given .1)) (here t (c .before .before .before .before .before))) (s .pre .0) (s .pre .1 .0 .1) in (d .0, (d .1, room-rest _ _ (c .before .before .before .before .before .before .before .before .check-itself .ensures) (le-refl _) (room-is (scoped-entered _ _ (here t (c .before .before .before .before .before)) (told t (c .before .before .before .before .before) (c .before .before .before .below .given .1)) (first-in-scope _ (here t (c .before .before .before .before .before)) (c .before .scope-first .ensures))) (s .pre .1 .1)))))
+    (λ c κs. let s = c .before .before .before .before .before .before .before .before .before .before .before .before .before .before in let d = under-body (entered (told t (c .before .before .before .before .before) (c .before .before .before .below .given .1)) (here t (c .before .before .before .before .before))) (s .pre .0) (s .pre .1 .0 .1) in (d .0, (d .1, room-rest _ _ (c .before .before .before .before .before .before .before .before .check-itself .ensures) (le-refl _) (room-is (scoped-entered _ _ (here t (c .before .before .before .before .before)) (told t (c .before .before .before .before .before) (c .before .before .before .below .given .1)) (first-in-scope _ (here t (c .before .before .before .before .before)) (c .before .scope-first .ensures))) (s .pre .1 .1)))))
     (λ c. search needs)
-    (λ c κs. let s = c .before .before .before .before .before .before .before .before .before .before .before .before .before .before in let d = under-body (entered (told t (c .before .before .before .before) (c .before .before .below2 .given .1)) (here t (c .before .before .before .before)) .0) (s .pre .0) (s .pre .1 .0 .1) in (d .0, (d .1, room-first _ _ (room-rest _ _ (c .before .before .before .before .before .before .before .check-itself .ensures) (le-refl _) (room-is (scoped-entered _ _ (here t (c .before .before .before .before)) (told t (c .before .before .before .before) (c .before .before .below2 .given .1)) refl) (s .pre .1 .1))))))
-    (λ c κs. let s = c .before .before .before .before .before .before .before .before .before .before .before .before .before .before .before .before .before .before in let d = under-body (entered (told t (c .before .before .before .before .before .before .before .before) (c .before .before .before .before .before .before .below2 .given .1)) (here t (c .before .before .before .before .before .before .before .before)) .1) (s .pre .0) (s .pre .1 .0 .1) in (d .0, (d .1, room-rest _ _ (c .before .before .before .check-condition2 .ensures) (le-refl _) (room-rest _ _ (c .before .before .before .before .before .before .before .before .before .before .before .check-itself .ensures) (le-refl _) (room-is (scoped-entered _ _ (here t (c .before .before .before .before .before .before .before .before)) (told t (c .before .before .before .before .before .before .before .before) (c .before .before .before .before .before .before .below2 .given .1)) refl) (s .pre .1 .1))))))
+    (λ c κs. let s = c .before .before .before .before .before .before .before .before .before .before .before .before .before in let d = under-body (entered (told t (c .before .before .before .before) (c .before .before .below2 .given .1)) (here t (c .before .before .before .before)) .0) (s .pre .0) (s .pre .1 .0 .1) in (d .0, (d .1, room-first _ _ (room-rest _ _ (c .before .before .before .before .before .before .before .check-itself .ensures) (le-refl _) (room-is (scoped-entered _ _ (here t (c .before .before .before .before)) (told t (c .before .before .before .before) (c .before .before .below2 .given .1)) refl) (s .pre .1 .1))))))
+    (λ c κs. let s = c .before .before .before .before .before .before .before .before .before .before .before .before .before .before .before .before .before in let d = under-body (entered (told t (c .before .before .before .before .before .before .before .before) (c .before .before .before .before .before .before .below2 .given .1)) (here t (c .before .before .before .before .before .before .before .before)) .1) (s .pre .0) (s .pre .1 .0 .1) in (d .0, (d .1, room-rest _ _ (c .before .before .before .check-condition2 .ensures) (le-refl _) (room-rest _ _ (c .before .before .before .before .before .before .before .before .before .before .before .check-itself .ensures) (le-refl _) (room-is (scoped-entered _ _ (here t (c .before .before .before .before .before .before .before .before)) (told t (c .before .before .before .before .before .before .before .before) (c .before .before .before .before .before .before .below2 .given .1)) refl) (s .pre .1 .1))))))
     (λ c. search needs)
-    (λ c κs. let s = c .before .before .before .before .before .before .before .before .before .before .before .before .before .before in let d = under (entered (told t (c .before .before .before .before) (c .before .before .below3 .given .1)) (here t (c .before .before .before .before)) .0) (s .pre .0) (s .pre .1 .0 .1) in (d .0, (d .1, room-first _ _ (room-rest _ _ (c .before .before .before .before .before .before .before .check-itself .ensures) (le-refl _) (room-is (scoped-entered _ _ (here t (c .before .before .before .before)) (told t (c .before .before .before .before) (c .before .before .below3 .given .1)) refl) (s .pre .1 .1))))))
-    (λ c κs. let s = c .before .before .before .before .before .before .before .before .before .before .before .before .before .before .before .before .before .before in let d = under (entered (told t (c .before .before .before .before .before .before .before .before) (c .before .before .before .before .before .before .below3 .given .1)) (here t (c .before .before .before .before .before .before .before .before)) .1) (s .pre .0) (s .pre .1 .0 .1) in (d .0, (d .1, room-rest _ _ (c .before .before .before .check-operand .ensures) (le-refl _) (room-rest _ _ (c .before .before .before .before .before .before .before .before .before .before .before .check-itself .ensures) (le-refl _) (room-is (scoped-entered _ _ (here t (c .before .before .before .before .before .before .before .before)) (told t (c .before .before .before .before .before .before .before .before) (c .before .before .before .before .before .before .below3 .given .1)) refl) (s .pre .1 .1))))))
+    (λ c κs. let s = c .before .before .before .before .before .before .before .before .before .before .before .before .before in let d = under (entered (told t (c .before .before .before .before) (c .before .before .below3 .given .1)) (here t (c .before .before .before .before)) .0) (s .pre .0) (s .pre .1 .0 .1) in (d .0, (d .1, room-first _ _ (room-rest _ _ (c .before .before .before .before .before .before .before .check-itself .ensures) (le-refl _) (room-is (scoped-entered _ _ (here t (c .before .before .before .before)) (told t (c .before .before .before .before) (c .before .before .below3 .given .1)) refl) (s .pre .1 .1))))))
+    (λ c κs. let s = c .before .before .before .before .before .before .before .before .before .before .before .before .before .before .before .before .before in let d = under (entered (told t (c .before .before .before .before .before .before .before .before) (c .before .before .before .before .before .before .below3 .given .1)) (here t (c .before .before .before .before .before .before .before .before)) .1) (s .pre .0) (s .pre .1 .0 .1) in (d .0, (d .1, room-rest _ _ (c .before .before .before .check-operand .ensures) (le-refl _) (room-rest _ _ (c .before .before .before .before .before .before .before .before .before .before .before .check-itself .ensures) (le-refl _) (room-is (scoped-entered _ _ (here t (c .before .before .before .before .before .before .before .before)) (told t (c .before .before .before .before .before .before .before .before) (c .before .before .before .before .before .before .below3 .given .1)) refl) (s .pre .1 .1))))))
     (λ c. search needs)
     (nothing-writes t)
     (λ c. search needs)
@@ -183,21 +183,21 @@ pub +check-condition+check-operand-spec : {M : Type 1} → statement M
     (λ c. search needs)
     (operands-writes t))
     (λ t. check-operand-lts.spec (operand-claims t) (operand-at t) check-operand.Post
-    (λ c κs. c .before .before .pre .1 .0 .0)
+    (λ c κs. c .before .pre .1 .0 .0)
     (λ c. search needs)
-    (λ c κs. let a = operand-arm t (c .before .before .before .before) (c .before .before .node .given .1) in let d = under (a .children .0) (c .before .before .before .before .before .before .before .pre .0) (c .before .before .before .before .before .before .before .pre .1 .0 .1) in (
+    (λ c κs. let a = operand-arm t (c .before .before .before .before) (c .before .before .node .given .1) in let d = under (a .children .0) (c .before .before .before .before .before .before .pre .0) (c .before .before .before .before .before .before .pre .1 .0 .1) in (
       d .0,
       (
         d .1,
-        room-first _ _ (room-is (scoped-arith _ _ a) (c .before .before .before .before .before .before .before .pre .1 .1)),
+        room-first _ _ (room-is (scoped-arith _ _ a) (c .before .before .before .before .before .before .pre .1 .1)),
       ),
     ))
-    (λ c κs. let a = operand-arm t (c .before .before .before .before .before .before .before .before) (c .before .before .before .before .before .before .node .given .1) in let d = under (a .children .1 .0) (c .before .before .before .before .before .before .before .before .before .before .before .pre .0) (c .before .before .before .before .before .before .before .before .before .before .before .pre .1 .0 .1) in (
+    (λ c κs. let a = operand-arm t (c .before .before .before .before .before .before .before .before) (c .before .before .before .before .before .before .node .given .1) in let d = under (a .children .1 .0) (c .before .before .before .before .before .before .before .before .before .before .pre .0) (c .before .before .before .before .before .before .before .before .before .before .pre .1 .0 .1) in (
       d .0,
       (
         d .1,
         room-rest _ _ (c .before .before .before .check-operand .ensures) (omega (arith, c .before .before .before .check-operand .ensures .total)) (room-is
-            (scoped-arith _ _ a) (c .before .before .before .before .before .before .before .before .before .before .before .pre .1 .1)),
+            (scoped-arith _ _ a) (c .before .before .before .before .before .before .before .before .before .before .pre .1 .1)),
       ),
     ))
     (λ c. search needs)
@@ -205,17 +205,17 @@ pub +check-condition+check-operand-spec : {M : Type 1} → statement M
     (λ c. search needs)
     (λ c κs. let a = operand-arm t (c .before .before .before .before) (c .before .before .node4 .given .1) in (
       a .children .0 .has,
-      room-is (scoped-array _ _ a) (c .before .before .before .before .before .before .before .pre .1 .1),
+      room-is (scoped-array _ _ a) (c .before .before .before .before .before .before .pre .1 .1),
     ))
-    (λ c κs. c .before .before .before .before .pre .1 .0 .0)
+    (λ c κs. c .before .before .before .pre .1 .0 .0)
     (operand-returns t)
     (λ c κs. (
-      (c .before .before .before .before .before .before .before .pre .1 .0 .0, c .before .before .before .before .before .before .before .pre .1 .0 .1),
-      room-first _ _ (room-is (scoped-aggregate _ _ (gathers t (c .before .before .before)) refl (operand-arm t (c .before .before .before .before) refl) (sym (c .before .before .is-skipped .ensures) ∙ c .before .if1 .left)) (c .before .before .before .before .before .before .before .pre .1 .1)),
+      (c .before .before .before .before .before .before .pre .1 .0 .0, c .before .before .before .before .before .before .pre .1 .0 .1),
+      room-first _ _ (room-is (scoped-aggregate _ _ (gathers t (c .before .before .before)) refl (operand-arm t (c .before .before .before .before) refl) (sym (c .before .before .is-skipped .ensures) ∙ c .before .if1 .left)) (c .before .before .before .before .before .before .pre .1 .1)),
     ))
     (λ c κs. of-aggregate (gathers t (c .before .before .before .before .before .before)) (operand-arm t (c .before .before .before .before .before .before .before)
     refl) .0 .has)
-    (λ c κs. let s = c .before .before .before .before .before .before .before .before .before .before .before .before in let g = gathers t (c .before .before .before .before .before .before .before .before) in let a = operand-arm t (c .before .before .before .before .before .before .before .before .before) refl in let d = under-body (of-aggregate g a .1) (s .pre .0) (s .pre .1 .0 .1) in
+    (λ c κs. let s = c .before .before .before .before .before .before .before .before .before .before .before in let g = gathers t (c .before .before .before .before .before .before .before .before) in let a = operand-arm t (c .before .before .before .before .before .before .before .before .before) refl in let d = under-body (of-aggregate g a .1) (s .pre .0) (s .pre .1 .0 .1) in
     (d .0, (d .1, room-rest _ _ (c .before .before .before .before .check-agg-expr .ensures) (le-refl _) (room-is (scoped-aggregate _ _ g (c .before .with-binders .ensures) a (sym (c .before .before .before .before .before .before .before .is-skipped .ensures) ∙ c .before .before .before .before .before .before .if1 .left)) (s .pre .1 .1)))))
     (λ c. search needs)
     (operand-returns-2 t)

@@ -19,31 +19,31 @@ use Rattle.slots.proofs.slot_name.Reads as slot-name-reads
 use Rattle.slots.proofs.+binder_names.{statement}
 use Rattle.slots.proofs.+binder_names.Tie.{close}
 
-abbrev μ-cells : Measures 2 binder-names-kinds.ps ℕ
-μ-cells κs a = a .1 .1 .0 .0
+abbrev μ-cells : Measures 1 binder-names-kinds.ps ℕ
+μ-cells κs a = a .1 .0 .0
 
-abbrev cells-at : ℕ → In 2 binder-names-kinds.ps
-cells-at t = and 2 binder-names-kinds.ps (is 2 binder-names-kinds.ps μ-cells t) binder-names.Pre
+abbrev cells-at : ℕ → In 1 binder-names-kinds.ps
+cells-at t = and 1 binder-names-kinds.ps (is 1 binder-names-kinds.ps μ-cells t) binder-names.Pre
 
-abbrev cells-below : ℕ → In 2 binder-names-kinds.ps
-cells-below t = and 2 binder-names-kinds.ps (falls 2 binder-names-kinds.ps _<_ μ-cells t) binder-names.Pre
+abbrev cells-below : ℕ → In 1 binder-names-kinds.ps
+cells-below t = and 1 binder-names-kinds.ps (falls 1 binder-names-kinds.ps _<_ μ-cells t) binder-names.Pre
 
 abbrev cells-claims : ℕ → binder-names-lts.Claims
 cells-claims t =
     (node-at-reads.Asked, node-at-reads.Learnt, slot-name-reads.Asked, slot-name-reads.Learnt, cells-below t, binder-names.Post, union-reads.Asked, union-reads.Learnt, empty-reads.Asked, empty-reads.Learnt)
 
 cells-arm : (t : ℕ) (c : binder-names-lts.After-node-at (cells-claims t) (cells-at t) binder-names.Post) {m : Node} → c .node-at .result ≡ m
-    → Arm (now (c .before .before .args .bytes)) (now (c .before .before .args .starts)) (c .before .before .args .i .0) m
-cells-arm t c p = arm _ _ _ _ _ (c .before .before .pre .1) (c .node-at .ensures) p
+    → Arm (now (c .before .args .columns)) (c .before .args .i .0) m
+cells-arm t c p = arm _ _ _ _ (c .before .pre .1) (c .node-at .ensures) p
 
 pub +binder-names-spec : {M : Type 1} → statement M
 +binder-names-spec =
     close μ-cells
     (λ t. binder-names-lts.spec (cells-claims t) (cells-at t) binder-names.Post
-    (λ c κs. c .before .pre .1)
+    (λ c κs. c .pre .1)
     (λ c. search needs)
     (λ c κs. slot-tabled (c .before .node .given .0 .0) (cells-arm t (c .before .before .before) (c .before .node .given .1) .tabled))
-    (λ c κs. down (cells-arm t (c .before .before .before .before) (c .before .before .node .given .1) .children .0) (c .before .before .before .before .before .before .pre .0))
+    (λ c κs. down (cells-arm t (c .before .before .before .before) (c .before .before .node .given .1) .children .0) (c .before .before .before .before .before .pre .0))
     (λ c κs. search needs)
     (λ c κs. search needs)
     (λ c. c .union .ensures ∙ ap₂ _∪_ (c .before .before .slot-name .ensures) (c .before .binder-names .ensures) ∙ sym (binders-cell (cells-arm t (c .before .before .before .before .before .before) (c .before .before .before .before .node .given .1))))

@@ -21,21 +21,21 @@ use Rattle.record.proofs.access.node_at.Reads as node-at-reads
 use Rattle.vars.proofs.+term_contains_wildcard.{statement}
 use Rattle.vars.proofs.+term_contains_wildcard.Tie.{close}
 
-abbrev μ-term : Measures 2 term-contains-wildcard-kinds.ps ℕ
-μ-term κs a = a .1 .1 .0 .0
+abbrev μ-term : Measures 1 term-contains-wildcard-kinds.ps ℕ
+μ-term κs a = a .1 .0 .0
 
-abbrev term-at : ℕ → In 2 term-contains-wildcard-kinds.ps
-term-at t = and 2 term-contains-wildcard-kinds.ps (is 2 term-contains-wildcard-kinds.ps μ-term t) term-contains-wildcard.Pre
+abbrev term-at : ℕ → In 1 term-contains-wildcard-kinds.ps
+term-at t = and 1 term-contains-wildcard-kinds.ps (is 1 term-contains-wildcard-kinds.ps μ-term t) term-contains-wildcard.Pre
 
-abbrev term-below : ℕ → In 2 term-contains-wildcard-kinds.ps
-term-below t = and 2 term-contains-wildcard-kinds.ps (falls 2 term-contains-wildcard-kinds.ps _<_ μ-term t) term-contains-wildcard.Pre
+abbrev term-below : ℕ → In 1 term-contains-wildcard-kinds.ps
+term-below t = and 1 term-contains-wildcard-kinds.ps (falls 1 term-contains-wildcard-kinds.ps _<_ μ-term t) term-contains-wildcard.Pre
 
 abbrev term-claims : ℕ → term-contains-wildcard-lts.Claims
 term-claims t = (node-at-reads.Asked, node-at-reads.Learnt, term-below t, term-contains-wildcard.Post)
 
 term-arm : (t : ℕ) (c : term-contains-wildcard-lts.After-node-at (term-claims t) (term-at t) term-contains-wildcard.Post) {m : Node} → c .node-at .result ≡ m
-    → Arm (now (c .before .before .args .bytes)) (now (c .before .before .args .starts)) (c .before .before .args .i .0) m
-term-arm t c p = arm _ _ _ _ _ (c .before .before .pre .1) (c .node-at .ensures) p
+    → Arm (now (c .before .args .columns)) (c .before .args .i .0) m
+term-arm t c p = arm _ _ _ _ (c .before .pre .1) (c .node-at .ensures) p
 
 terms : (t : ℕ) (c : term-contains-wildcard-lts.At-match-came (term-claims t) (term-at t) term-contains-wildcard.Post)
     → Terms (c .match .l) (c .match .r) (c .before .node-at .result)
@@ -49,15 +49,15 @@ pub +term-contains-wildcard-spec : {M : Type 1} → statement M
 +term-contains-wildcard-spec =
     close μ-term
     (λ t. term-contains-wildcard-lts.spec (term-claims t) (term-at t) term-contains-wildcard.Post
-    (λ c κs. c .before .pre .1)
+    (λ c κs. c .pre .1)
     (λ c. search needs)
     (λ c. search needs)
     (λ c. search needs)
     (λ c. search needs)
     (λ c. search needs)
-    (λ c κs. down ((term-arm t (c .before .before .before) (c .before .node4 .given .1)) .children .0) (c .before .before .before .before .before .pre .0))
-    (λ c κs. down (of-terms (terms t c) (term-arm t (c .before) refl) .0) (c .before .before .before .pre .0))
-    (λ c κs. down (of-terms (terms t (c .before .before)) (term-arm t (c .before .before .before) refl) .1) (c .before .before .before .before .before .pre .0))
+    (λ c κs. down ((term-arm t (c .before .before .before) (c .before .node4 .given .1)) .children .0) (c .before .before .before .before .pre .0))
+    (λ c κs. down (of-terms (terms t c) (term-arm t (c .before) refl) .0) (c .before .before .pre .0))
+    (λ c κs. down (of-terms (terms t (c .before .before)) (term-arm t (c .before .before .before) refl) .1) (c .before .before .before .before .pre .0))
     (λ c. sym (wildcard-here (term-arm t (c .before .before) (c .enum-told .given .1))))
     (λ c. c .term-contains-wildcard .ensures ∙ sym (array-law wildcard-terms (term-arm t (c .before .before .before .before) (c .before .before .node4 .given .1))))
     (λ c. sym (ap wildcard-in ((term-arm t (c .before) refl) .tree) ∙ no-wildcard _ _ _ (c .match .keys6)))

@@ -16,7 +16,7 @@ ties-one c =
 
 single-requires : tie.Need-single-requires
 single-requires c κs =
-    let start = c .before .before .before in
+    let start = c .before .before in
     tied-tabled (start .pre .0) (start .pre .1) (ties-one c) _ (c .before .eq-restricted-var .ensures)
 
 returns : tie.Need-returns

@@ -30,23 +30,23 @@ use Rattle.parts.proofs.entered_below.Reads as entered-below-reads
 use Rattle.checks.proofs.arith.+condition_has_arith+term_has_arith.{statement}
 use Rattle.checks.proofs.arith.+condition_has_arith+term_has_arith.Tie.{close}
 
-abbrev μ-body : Measures 2 condition-has-arith-kinds.ps ℕ
-μ-body κs a = a .1 .1 .0 .0
+abbrev μ-body : Measures 1 condition-has-arith-kinds.ps ℕ
+μ-body κs a = a .1 .0 .0
 
-abbrev μ-term : Measures 2 term-has-arith-kinds.ps ℕ
-μ-term κs a = a .1 .1 .0 .0
+abbrev μ-term : Measures 1 term-has-arith-kinds.ps ℕ
+μ-term κs a = a .1 .0 .0
 
-abbrev body-at : ℕ → In 2 condition-has-arith-kinds.ps
-body-at t = and 2 condition-has-arith-kinds.ps (is 2 condition-has-arith-kinds.ps μ-body t) condition-has-arith.Pre
+abbrev body-at : ℕ → In 1 condition-has-arith-kinds.ps
+body-at t = and 1 condition-has-arith-kinds.ps (is 1 condition-has-arith-kinds.ps μ-body t) condition-has-arith.Pre
 
-abbrev body-below : ℕ → In 2 condition-has-arith-kinds.ps
-body-below t = and 2 condition-has-arith-kinds.ps (falls 2 condition-has-arith-kinds.ps _<_ μ-body t) condition-has-arith.Pre
+abbrev body-below : ℕ → In 1 condition-has-arith-kinds.ps
+body-below t = and 1 condition-has-arith-kinds.ps (falls 1 condition-has-arith-kinds.ps _<_ μ-body t) condition-has-arith.Pre
 
-abbrev term-at : ℕ → In 2 term-has-arith-kinds.ps
-term-at t = and 2 term-has-arith-kinds.ps (is 2 term-has-arith-kinds.ps μ-term t) term-has-arith.Pre
+abbrev term-at : ℕ → In 1 term-has-arith-kinds.ps
+term-at t = and 1 term-has-arith-kinds.ps (is 1 term-has-arith-kinds.ps μ-term t) term-has-arith.Pre
 
-abbrev term-below : ℕ → In 2 term-has-arith-kinds.ps
-term-below t = and 2 term-has-arith-kinds.ps (falls 2 term-has-arith-kinds.ps _<_ μ-term t) term-has-arith.Pre
+abbrev term-below : ℕ → In 1 term-has-arith-kinds.ps
+term-below t = and 1 term-has-arith-kinds.ps (falls 1 term-has-arith-kinds.ps _<_ μ-term t) term-has-arith.Pre
 
 abbrev body-claims : ℕ → condition-has-arith-lts.Claims
 body-claims t = (node-at-reads.Asked, node-at-reads.Learnt, entered-below-reads.Asked, entered-below-reads.Learnt, body-below t, condition-has-arith.Post, term-below t, term-has-arith.Post)
@@ -55,19 +55,19 @@ abbrev term-claims : ℕ → term-has-arith-lts.Claims
 term-claims t = (node-at-reads.Asked, node-at-reads.Learnt, body-below t, condition-has-arith.Post)
 
 body-arm : (t : ℕ) (c : condition-has-arith-lts.After-node-at (body-claims t) (body-at t) condition-has-arith.Post) {m : Node} → c .node-at .result ≡ m
-    → Arm (now (c .before .before .args .bytes)) (now (c .before .before .args .starts)) (c .before .before .args .i .0) m
-body-arm t c p = arm _ _ _ _ _ (c .before .before .pre .1) (c .node-at .ensures) p
+    → Arm (now (c .before .args .columns)) (c .before .args .i .0) m
+body-arm t c p = arm _ _ _ _ (c .before .pre .1) (c .node-at .ensures) p
 
 term-arm : (t : ℕ) (c : term-has-arith-lts.After-node-at (term-claims t) (term-at t) term-has-arith.Post) {m : Node} → c .node-at .result ≡ m
-    → Arm (now (c .before .before .args .bytes)) (now (c .before .before .args .starts)) (c .before .before .args .i .0) m
-term-arm t c p = arm _ _ _ _ _ (c .before .before .pre .1) (c .node-at .ensures) p
+    → Arm (now (c .before .args .columns)) (c .before .args .i .0) m
+term-arm t c p = arm _ _ _ _ (c .before .pre .1) (c .node-at .ensures) p
 
 -- where the walk goes on below a condition, and what it finds there
 module _ (t : ℕ) (c : condition-has-arith-lts.After-entered-below (body-claims t) (body-at t) condition-has-arith.Post) {s : Below} (p : c .entered-below .result ≡ s) where
   abbrev goes : s ≡ entered-below (c .before .node-at .result)
   goes = sym p ∙ c .entered-below .ensures
 
-  found : has-arith (condition-of (now (c .before .before .before .args .bytes)) (c .before .before .before .args .i .0)) ≡ goes-on (now (c .before .before .before .args .bytes)) s
+  found : has-arith (condition-of (now (c .before .before .args .columns)) (c .before .before .args .i .0)) ≡ goes-on (now (c .before .before .args .columns)) s
   found = arith-entered (body-arm t (c .before) refl) goes
 
 gathers : (t : ℕ) (c : term-has-arith-lts.At-match-came (term-claims t) (term-at t) term-has-arith.Post)
@@ -81,17 +81,17 @@ pub +condition-has-arith+term-has-arith-spec : {M : Type 1} → statement M
 +condition-has-arith+term-has-arith-spec =
     close μ-body μ-term
     (λ t. condition-has-arith-lts.spec (body-claims t) (body-at t) condition-has-arith.Post
-    (λ c κs. c .before .pre .1)
+    (λ c κs. c .pre .1)
     (λ c κs. search needs)
     (λ c. search needs)
     (λ c. search needs)
-    (λ c κs. down (entered (goes t (c .before .before .before) (c .before .b .given .1)) (body-arm t (c .before .before .before .before) refl)) (c .before .before .before .before .before .before .pre .0))
+    (λ c κs. down (entered (goes t (c .before .before .before) (c .before .b .given .1)) (body-arm t (c .before .before .before .before) refl)) (c .before .before .before .before .before .pre .0))
     (λ c. search needs)
-    (λ c κs. down (entered (goes t (c .before .before .before) (c .before .l .given .1)) (body-arm t (c .before .before .before .before) refl) .0) (c .before .before .before .before .before .before .pre .0))
-    (λ c κs. down (entered (goes t (c .before .before .before .before .before) (c .before .before .before .l .given .1)) (body-arm t (c .before .before .before .before .before .before) refl) .1) (c .before .before .before .before .before .before .before .before .pre .0))
+    (λ c κs. down (entered (goes t (c .before .before .before) (c .before .l .given .1)) (body-arm t (c .before .before .before .before) refl) .0) (c .before .before .before .before .before .pre .0))
+    (λ c κs. down (entered (goes t (c .before .before .before .before .before) (c .before .before .before .l .given .1)) (body-arm t (c .before .before .before .before .before .before) refl) .1) (c .before .before .before .before .before .before .before .pre .0))
     (λ c. search needs)
-    (λ c κs. down (entered (goes t (c .before .before .before) (c .before .l2 .given .1)) (body-arm t (c .before .before .before .before) refl) .0) (c .before .before .before .before .before .before .pre .0))
-    (λ c κs. down (entered (goes t (c .before .before .before .before .before) (c .before .before .before .l2 .given .1)) (body-arm t (c .before .before .before .before .before .before) refl) .1) (c .before .before .before .before .before .before .before .before .pre .0))
+    (λ c κs. down (entered (goes t (c .before .before .before) (c .before .l2 .given .1)) (body-arm t (c .before .before .before .before) refl) .0) (c .before .before .before .before .before .pre .0))
+    (λ c κs. down (entered (goes t (c .before .before .before .before .before) (c .before .before .before .l2 .given .1)) (body-arm t (c .before .before .before .before .before .before) refl) .1) (c .before .before .before .before .before .before .before .pre .0))
     (λ c. sym (found t (c .before .before) (c .enum-told .given .1)))
     (λ c. c .condition-has-arith .ensures ∙ sym (found t (c .before .before .before .before) (c .before .before .b .given .1)))
     (λ c. or-taken _ (c .if1 .taken) (c .before .condition-has-arith2 .ensures) (found t (c .before .before .before .before .before) (c .before .before .before .l .given .1)))
@@ -99,11 +99,11 @@ pub +condition-has-arith+term-has-arith-spec : {M : Type 1} → statement M
     (λ c. or-taken _ (c .if2 .taken) (c .before .term-has-arith .ensures) (found t (c .before .before .before .before .before) (c .before .before .before .l2 .given .1)))
     (λ c. or-else (c .before .if2 .left) (c .before .before .term-has-arith .ensures) (c .term-has-arith2 .ensures) (found t (c .before .before .before .before .before .before) (c .before .before .before .before .l2 .given .1))))
     (λ t. term-has-arith-lts.spec (term-claims t) (term-at t) term-has-arith.Post
-    (λ c κs. c .before .pre .1)
+    (λ c κs. c .pre .1)
     (λ c. search needs)
     (λ c. search needs)
     (λ c. search needs)
-    (λ c κs. down (of-aggregate (gathers t c .1) (term-arm t (c .before) refl) .1) (c .before .before .before .pre .0))
+    (λ c κs. down (of-aggregate (gathers t c .1) (term-arm t (c .before) refl) .1) (c .before .before .pre .0))
     (λ c. sym (arith-here (term-arm t (c .before .before) (c .enum-told .given .1))))
     (λ c. sym (in-operand (term-arm t (c .before) refl) ∙ no-arith _ _ _ (c .match .keys4)))
     (λ c. c .condition-has-arith .ensures ∙ sym (arith-aggregate (gathers t (c .before) .1) (term-arm t (c .before .before) refl))))

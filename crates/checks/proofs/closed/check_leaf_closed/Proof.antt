@@ -12,7 +12,7 @@ pub check-leaf-closed-spec : {M : Type 1} → statement M
 check-leaf-closed-spec =
     tie.close
     (tie.spec
-    (λ c κs. c .before .before .pre .0)
-    (λ c κs. room-is (for-same _ _ (c .before .collect-free .ensures)) (c .before .before .before .before .pre .1))
+    (λ c κs. c .before .pre .0)
+    (λ c κs. room-is (for-same _ _ (c .before .collect-free .ensures)) (c .before .before .before .pre .1))
     (λ c. search needs)
     returns)

@@ -22,22 +22,22 @@ use Rattle.record.proofs.access.node_at.Reads as node-at-reads
 use Rattle.places.proofs.nested.+reject_nested_agg.{statement}
 use Rattle.places.proofs.nested.+reject_nested_agg.Tie.{close}
 
-abbrev μ-search : Measures 3 reject-nested-agg-kinds.ps ℕ
-μ-search κs a = a .1 .1 .0 .0
+abbrev μ-search : Measures 2 reject-nested-agg-kinds.ps ℕ
+μ-search κs a = a .1 .0 .0
 
-abbrev search-at : ℕ → In 3 reject-nested-agg-kinds.ps
-search-at t = and 3 reject-nested-agg-kinds.ps (is 3 reject-nested-agg-kinds.ps μ-search t) reject-nested-agg.Pre
+abbrev search-at : ℕ → In 2 reject-nested-agg-kinds.ps
+search-at t = and 2 reject-nested-agg-kinds.ps (is 2 reject-nested-agg-kinds.ps μ-search t) reject-nested-agg.Pre
 
-abbrev search-below : ℕ → In 3 reject-nested-agg-kinds.ps
-search-below t = and 3 reject-nested-agg-kinds.ps (falls 3 reject-nested-agg-kinds.ps _<_ μ-search t) reject-nested-agg.Pre
+abbrev search-below : ℕ → In 2 reject-nested-agg-kinds.ps
+search-below t = and 2 reject-nested-agg-kinds.ps (falls 2 reject-nested-agg-kinds.ps _<_ μ-search t) reject-nested-agg.Pre
 
 abbrev search-claims : ℕ → reject-nested-agg-lts.Claims
 search-claims t =
     (node-at-reads.Asked, node-at-reads.Learnt, reject-reads.Asked, reject-reads.Learnt, search-below t, reject-nested-agg.Post)
 
 search-arm : (t : ℕ) (c : reject-nested-agg-lts.After-node-at (search-claims t) (search-at t) reject-nested-agg.Post) {m : Node} → c .node-at .result ≡ m
-    → Arm (now (c .before .before .before .args .bytes)) (now (c .before .before .before .args .starts)) (c .before .before .before .args .i .0) m
-search-arm t c p = arm _ _ _ _ _ (c .before .before .before .pre .1 .0) (c .node-at .ensures) p
+    → Arm (now (c .before .before .args .columns)) (c .before .before .args .i .0) m
+search-arm t c p = arm _ _ _ _ (c .before .before .pre .1 .0) (c .node-at .ensures) p
 
 row : (t : ℕ) (c : reject-nested-agg-lts.At-match-came (search-claims t) (search-at t) reject-nested-agg.Post) → Row (c .match .t) (c .match .rest) (c .before .node-at
     .result)
@@ -75,27 +75,27 @@ pub +reject-nested-agg-spec : {M : Type 1} → statement M
 +reject-nested-agg-spec =
     close μ-search
     (λ t. reject-nested-agg-lts.spec (search-claims t) (search-at t) reject-nested-agg.Post
-    (λ c κs. c .before .before .pre .1 .0)
-    (λ c κs. room-is (in-nested (search-arm t (c .before .before) refl) ∙ nested-aggregate _ _ _ (c .before .match .keys1)) (c .before .before .before .before .before
+    (λ c κs. c .before .pre .1 .0)
+    (λ c κs. room-is (in-nested (search-arm t (c .before .before) refl) ∙ nested-aggregate _ _ _ (c .before .match .keys1)) (c .before .before .before .before
     .pre .1 .1))
     (λ c. search needs)
-    (λ c κs. room-is (nested-arith (search-arm t (c .before .before .before) (c .before .enum-told .given .1))) (c .before .before .before .before .before .before .pre
+    (λ c κs. room-is (nested-arith (search-arm t (c .before .before .before) (c .before .enum-told .given .1))) (c .before .before .before .before .before .pre
     .1 .1))
     (λ c. search needs)
     (λ c κs. let a = search-arm t (c .before .before .before .before) (c .before .before .node .given .1) in let d = down (a .children .0) (c .before .before .before
-    .before .before .before .before .pre .0) in (d .0, (d .1, room-is (nested-array a) (c .before .before .before .before .before .before .before .pre .1 .1))))
+    .before .before .before .pre .0) in (d .0, (d .1, room-is (nested-array a) (c .before .before .before .before .before .before .pre .1 .1))))
     (λ c. search needs)
     (λ c. search needs)
-    (λ c κs. let a = search-arm t (c .before .before) refl in let d = down (of-terms (row-terms (row t (c .before))) a .0) (c .before .before .before .before .before
-    .pre .0) in (d .0, (d .1, room-first _ _ (room-is (nested-row (row t (c .before)) a) (c .before .before .before .before .before .pre .1 .1)))))
+    (λ c κs. let a = search-arm t (c .before .before) refl in let d = down (of-terms (row-terms (row t (c .before))) a .0) (c .before .before .before .before
+    .pre .0) in (d .0, (d .1, room-first _ _ (room-is (nested-row (row t (c .before)) a) (c .before .before .before .before .pre .1 .1)))))
     (λ c κs. let a = search-arm t (c .before .before .before .before .before .before) refl in let d = down (of-terms (row-terms (row t (c .before .before .before
-    .before .before))) a .1) (c .before .before .before .before .before .before .before .before .before .pre .0) in (
+    .before .before))) a .1) (c .before .before .before .before .before .before .before .before .pre .0) in (
       d .0,
       (
         d .1,
         room-rest _ _ (c .before .before
             .before .reject-nested-agg2 .ensures) (omega (arith, c .before .before .before .reject-nested-agg2 .ensures .total)) (room-is (nested-row (row t (c .before
-            .before .before .before .before)) a) (c .before .before .before .before .before .before .before .before .before .pre .1 .1)),
+            .before .before .before .before)) a) (c .before .before .before .before .before .before .before .before .pre .1 .1)),
       ),
     ))
     (λ c. search needs)

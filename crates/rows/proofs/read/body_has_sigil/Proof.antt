@@ -9,7 +9,7 @@ use Rattle.rows.proofs.read.body_has_sigil.Tie as tie
 
 returns : tie.Need-returns
 unfolding meant condition-known
-returns c = let s = c .before .before in ap (λ (k : Known). k .sigil) (noted-body (s .pre .1) (s .pre .0) (s .pre .2) (c .facts-at .ensures))
+returns c = let s = c .before in ap (λ (k : Known). k .sigil) (noted-body (s .pre .1) (s .pre .0) (s .pre .2) (c .facts-at .ensures))
 
 pub body-has-sigil-spec : {M : Type 1} → statement M
-body-has-sigil-spec = tie.close (tie.spec (λ c κs. let s = c .before in let l = s .pre .0 in let f = s .pre .1 .fits in omega arith) returns)
+body-has-sigil-spec = tie.close (tie.spec (λ c κs. let s = c in let l = s .pre .0 in let f = s .pre .1 .fits in omega arith) returns)

@@ -9,7 +9,7 @@ use Rattle.rows.proofs.read.collect_term_var.Tie as tie
 
 returns : tie.Need-returns
 unfolding meant term-known
-returns c = let s = c .before .before .before in ap (λ (k : Known). k .free) (noted-term (s .pre .1) (s .pre .0) (s .pre .2) (c .before .facts-at .ensures))
+returns c = let s = c .before .before in ap (λ (k : Known). k .free) (noted-term (s .pre .1) (s .pre .0) (s .pre .2) (c .before .facts-at .ensures))
 
 pub collect-term-var-spec : {M : Type 1} → statement M
-collect-term-var-spec = tie.close (tie.spec (λ c κs. let s = c .before in let l = s .pre .0 in let f = s .pre .1 .fits in omega arith) returns)
+collect-term-var-spec = tie.close (tie.spec (λ c κs. let s = c in let l = s .pre .0 in let f = s .pre .1 .fits in omega arith) returns)

@@ -1,0 +1,39 @@
+-- `fill` goes from node to node: the columns have those before it. Assumes nothing.
+use denote.Ref.{now}
+use mathlib.Core.Path.{_≡_, sym, ap, _∙_}
+use mathlib.Core.List.{List}
+use Prim.Native.Nat.{ℕ, _+_, _-_, _<_, _≤_}
+use native.Mathlib.Omega.{arith}
+use native.Mathlib.Decide.{decLt}
+use lib.ListN.{length, getD}
+use lib.Seq.{getD-set-same}
+use Rattle.memory.specs.Columns.{node-in, Stores, Copies}
+use Rattle.memory.specs.Decoded.{node-from}
+use Rattle.memory.proofs.ColumnLaws.{SoFar, none-yet, one-more, all-copied}
+use borrow.Author.Needs.{needs}
+use Rattle.columns.proofs.fill.Statement.{statement}
+use Rattle.columns.proofs.fill.Tie as tie
+
+abbrev Inv-loop : tie.InvT-loop
+Inv-loop bytes starts nodes columns₀ i₀ columns i = SoFar bytes starts nodes columns i
+
+abbrev μ-loop : tie.MeasureT-loop
+μ-loop bytes starts nodes columns₀ i₀ columns i = nodes - i
+
+pub fill-spec : {M : Type 1} → statement M
+fill-spec =
+    tie.close
+    (tie.spec
+    Inv-loop
+    μ-loop
+    (λ c. none-yet (c .before .pre .0) (c .before .pre .1))
+    (λ c. let p = c .before .loop .inv in let f = p .few in let t = c .loop-test .taken in omega arith)
+    (λ c. let p = c .before .loop .inv in let f = p .few in let t = c .loop-test .taken in omega arith)
+    (λ c. let p = c .before .loop .inv in let f = p .few in let t = c .loop-test .taken in omega arith)
+    (λ c κs. tt)
+    (λ c κs. let l = c .before .before .before .before in let f = l .loop .inv .few in let t = c .before .before .before .loop-test .taken in (c .before .long .ensures .1, l .loop .inv .long, omega arith))
+    (λ c. let t = c .before .before .before .before .loop-test .taken in omega arith)
+    (λ c. let l = c .before .before .before .before .before in one-more (l .loop .inv) (c .before .before .before .before .loop-test .taken) (c .before .before .long .ensures .0) (c .copy-node .ensures))
+    (λ c. let f = c .before .loop .inv .few in omega arith)
+    (λ c. search needs)
+    (λ c. all-copied (c .before .loop .inv) (c .loop-test .left)))
