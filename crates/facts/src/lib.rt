@@ -1,9 +1,8 @@
 // The row of every node that has one, found by one recursion from the root.
 use derived::facts_of;
 use known::Parts;
-use paper::Node;
 use paper::NodeNo;
-use parts::parts_of;
+use parts::parts_at;
 use record::access::node_at;
 use rows::row::facts_at;
 use rows::row::put_facts;
@@ -12,20 +11,20 @@ use together::nothing;
 ghost use mathlib.Core.Path.{_≡_};
 ghost use mathlib.Core.Bool.{true};
 ghost use Prim.Native.Nat.{_<_};
-ghost use lib.ListN.{length, getD};
-ghost use Rattle.paper.specs.declared.Node.the-variants.{ListEnd};
+ghost use lib.ListN.{length};
 ghost use Rattle.paper.proofs.Walks.{All};
-ghost use Rattle.record.specs.Stored.{held, Has};
+ghost use Rattle.record.specs.Stored.{Has};
 ghost use Rattle.trees.specs.Trees.{tree-of, is-row};
 ghost use Rattle.known.specs.Known.{parts-of, nodes-of};
-ghost use Rattle.known.specs.Rows.{Right, Kept, Gathered};
+ghost use Rattle.known.specs.Rows.{node-of, Right, Kept, Gathered};
 
 // Puts a node's row, where the rows of its parts are right.
-fn put_own(columns: &[u16; 2049], rows: &mut [[u64; 5]], i: NodeNo, node: Node)
-    requires { ⌜ Has (now columns) (i .0) × (node ≡ getD (held (now columns)) (i .0) ListEnd) ⌝ }
-    requires { ⌜ (i .0 < length (now rows)) × All (Right (now columns) (now rows)) (nodes-of (parts-of node)) ⌝ }
+fn put_own(columns: &[u16; 2049], rows: &mut [[u64; 5]], i: NodeNo)
+    requires { ⌜ Has (now columns) (i .0) × (i .0 < length (now rows)) ⌝ }
+    requires { ⌜ All (Right (now columns) (now rows)) (nodes-of (parts-of (node-of (now columns) (i .0)))) ⌝ }
     ensures { λ r. ⌜ Kept (now (columns .entry)) (now (rows .entry)) (now (rows .exit)) × Right (now (columns .entry)) (now (rows .exit)) (i .0) ⌝ }
 {
+    let node = node_at(columns, i);
     let f = facts_of(columns, rows, node);
     put_facts(rows, i, f);
 }
@@ -38,8 +37,7 @@ fn collect_list(columns: &[u16; 2049], rows: &mut [[u64; 5]], list: NodeNo)
     let mut at = list;
     let mut all = nothing();
     loop {
-        let node = node_at(columns, at);
-        match parts_of(node) {
+        match parts_at(columns, at) {
             Parts::Then(t, rest) => {
                 collect_facts(columns, rows, t);
                 all = join_facts(all, facts_at(rows, t));
@@ -58,10 +56,9 @@ pub fn collect_facts(columns: &[u16; 2049], rows: &mut [[u64; 5]], i: NodeNo)
     requires { ⌜ Has (now columns) (i .0) × (i .0 < length (now rows)) ⌝ }
     ensures { λ r. ⌜ Gathered (now (columns .entry)) (now (rows .entry)) (now (rows .exit)) (i .0) ⌝ }
 {
-    let node = node_at(columns, i);
-    match parts_of(node) {
+    match parts_at(columns, i) {
         Parts::Leaf => {
-            return put_own(columns, rows, i, node);
+            return put_own(columns, rows, i);
         }
         Parts::One(b) => collect_facts(columns, rows, b),
         Parts::Two(l, r) => {
@@ -74,5 +71,5 @@ pub fn collect_facts(columns: &[u16; 2049], rows: &mut [[u64; 5]], i: NodeNo)
             collect_list(columns, rows, list);
         }
     }
-    put_own(columns, rows, i, node);
+    put_own(columns, rows, i);
 }

@@ -93,6 +93,16 @@ pub held-at : (columns : List ℕ) (i : ℕ) → i < length (held columns) → g
 unfolding held
 held-at columns i h = first-at columns (getD columns 2048 0) i (let z = long-first columns (getD columns 2048 0) in omega arith)
 
+-- a node whose four numbers are these
+numbers : (columns : List ℕ) (j k a b c : ℕ) → getD columns (0 + j) 0 ≡ k → getD columns (512 + j) 0 ≡ a → getD columns (1024 + j) 0 ≡ b → getD columns (1536 + j) 0 ≡ c
+    → node-in columns j ≡ node-said (announced k) (a ∷ b ∷ c ∷ [])
+numbers columns j k a b c p q r s = rw (p, q, r, s)
+
+-- what is asked of a node that is held may be asked of its four numbers
+pub asked-of : {A : Type 0} (f : Node → A) (columns : List ℕ) (i k a b c : ℕ) {t : A} → i < length (held columns) → k ≡ getD columns (0 + i) 0 → a ≡ getD columns (512 + i) 0
+    → b ≡ getD columns (1024 + i) 0 → c ≡ getD columns (1536 + i) 0 → t ≡ f (node-said (announced k) (a ∷ b ∷ c ∷ [])) → t ≡ f (getD (held columns) i ListEnd)
+asked-of f columns i k a b c h p q r s e = e ∙ ap f (sym (held-at columns i h ∙ numbers columns i k a b c (sym p) (sym q) (sym r) (sym s)))
+
 -- what was copied is held
 pub copied-held : (bytes starts columns : List ℕ) (ms : List Node) → Copies bytes starts (length ms) columns
     → ((i : ℕ) → i < length ms → getD ms i ListEnd ≡ node-from bytes (getD starts i 0)) → held columns ≡ ms
@@ -102,11 +112,6 @@ copied-held bytes starts columns ms c e =
     (λ i h. let l : i < length ms = let z = long-first columns (length ms) in omega arith in first-at columns (length ms) i l ∙ c .each i l ∙ sym (e i l))
 
 -- ---- columns into which numbers are put
-
--- a node whose four numbers are these
-numbers : (columns : List ℕ) (j k a b c : ℕ) → getD columns (0 + j) 0 ≡ k → getD columns (512 + j) 0 ≡ a → getD columns (1024 + j) 0 ≡ b → getD columns (1536 + j) 0 ≡ c
-    → node-in columns j ≡ node-said (announced k) (a ∷ b ∷ c ∷ [])
-numbers columns j k a b c p q r s = rw (p, q, r, s)
 
 module _ (columns : List ℕ) (long : length columns ≡ 2049) where
   -- how many nodes there are says nothing of a node

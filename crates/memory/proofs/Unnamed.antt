@@ -1,12 +1,14 @@
 -- A byte that is none of the kinds which a match names: what its last arm knows of the byte, and that the table of kinds has no row for it.
 -- Assumes nothing.
-use mathlib.Core.Path.{_≡_, refl, sym, ap, _∙_}
-use mathlib.Core.Bool.{Bool, true, false, _&&_, false≢true}
+use mathlib.Core.Path.{_≡_, refl, sym, ap, _∙_, subst}
+use mathlib.Core.Bool.{Bool, true, false, _&&_, _||_, false≢true}
 use mathlib.Core.List.{List, [], _∷_, _++_, map}
 use Prim.Native.Nat.{ℕ}
+use native.Mathlib.Decide.{ℕ-discrete}
 use lib.Dec.{eqb}
 use borrow.Author.Tests.{eqb-true, eqb-false, ne-eqb}
 use Rattle.paper.specs.declared.Node.the-variants.{ListEnd}
+use Rattle.paper.proofs.Walks.{All}
 use Rattle.paper.specs.Record.{pick, Kind, kinds, node-kind, format, name, end, unknown, announced}
 use Rattle.memory.specs.Columns.{node-said}
 
@@ -56,6 +58,41 @@ unfolding Away all?
 away-by p [] k s f = tt
 away-by p (i ∷ is) k s f = ((λ e. false≢true (sym f ∙ ap p e ∙ and-left (p i) (all? p is) s)), away-by p is k (and-right (p i) (all? p is) s) f)
 
+-- none of some kinds is none of others that all stand among them
+unfoldable pub among? : List ℕ → ℕ → Bool
+among? [] i = false
+among? (j ∷ js) i = eqb i j || among? js i
+
+away-one : (js : List ℕ) (i k : ℕ) → among? js i ≡ true → Away js k → k ≡ i → ⊥
+unfolding Away among?
+away-one [] i k m a e = false≢true m
+away-one (j ∷ js) i k m a e = go (λ n. away-one js i k n (a .1) e) (eqb i j) refl m
+  where
+    go : (among? js i ≡ true → ⊥) → (b : Bool) → eqb i j ≡ b → (b || among? js i) ≡ true → ⊥
+    go later true d n = a .0 (e ∙ eqb-true i j d)
+    go later false d n = later n
+
+pub away-among : (is js : List ℕ) (k : ℕ) → all? (among? js) is ≡ true → Away js k → Away is k
+unfolding Away all?
+away-among [] js k m a = tt
+away-among (i ∷ is) js k m a =
+    ((λ e. away-one js i k (and-left (among? js i) _ m) a e), away-among is js k (and-right (among? js i) _ m) a)
+
+pub away-both : (is js : List ℕ) (k : ℕ) → Away is k → Away js k → Away (is ++ js) k
+unfolding Away
+away-both [] js k a b = b
+away-both (i ∷ is) js k a b = (a .0, away-both is js k (a .1) b)
+
+-- what holds of each of some kinds, and of every other number, holds
+pub of-each : (P : ℕ → Type 0) (is : List ℕ) (k : ℕ) → All P is → (Away is k → P k) → P k
+unfolding Away
+of-each P [] k a f = f tt
+of-each P (i ∷ is) k a f = go (λ g. of-each P is k (a .1) g) (ℕ-discrete k i)
+  where
+    go : ((Away is k → P k) → P k) → Dec (k ≡ i) → P k
+    go later (yes e) = subst P (sym e) (a .0)
+    go later (no e) = later (λ w. f (e, w))
+
 -- one kind more, which stands between others
 between : (is js : List ℕ) (i k : ℕ) → (k ≡ i → ⊥) → Away (is ++ js) k → Away (is ++ (i ∷ js)) k
 unfolding Away
@@ -76,7 +113,7 @@ no-node false true u xs = refl
 no-node false false true xs = refl
 no-node false false false xs = refl
 
-says-end : (k : ℕ) (xs : List ℕ) → Away ((conditions ++ terms) ++ cells) k → (t : Bool) → eqb k 0x30 ≡ t → node-said (announced k) xs ≡ ListEnd
+pub says-end : (k : ℕ) (xs : List ℕ) → Away ((conditions ++ terms) ++ cells) k → (t : Bool) → eqb k 0x30 ≡ t → node-said (announced k) xs ≡ ListEnd
 unfolding node-said announced node-kind kinds
 says-end k xs a true e = rw (eqb-true k 0x30 e)
 says-end k xs a false e =

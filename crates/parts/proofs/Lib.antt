@@ -1,1 +1,2 @@
 pub mod EnteredLaws
+pub mod PartsLaws

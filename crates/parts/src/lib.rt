@@ -1,8 +1,19 @@
 // The parts of a node, and where a walk goes on below it.
 use known::Parts;
+use memory::FIRSTS;
+use memory::KINDS;
+use memory::SECONDS;
+use memory::THIRDS;
 use paper::Node;
 use paper::NodeNo;
+use record::access::number_at;
 ghost use mathlib.Core.Path.{_≡_};
+ghost use mathlib.Core.List.{[], _∷_};
+ghost use lib.ListN.{getD};
+ghost use Rattle.paper.specs.declared.Node.the-variants.{ListEnd};
+ghost use Rattle.paper.specs.Record.{announced};
+ghost use Rattle.memory.specs.Columns.{node-said};
+ghost use Rattle.record.specs.Stored.{held, Has};
 ghost use Rattle.known.specs.Known.{parts-of};
 ghost use Rattle.parts.specs.Entered.{entered-below};
 
@@ -14,28 +25,40 @@ pub enum Below {
     Operands(NodeNo, NodeNo),
 }
 
-// The nodes that a node's facts follow from.
-pub fn parts_of(node: Node) -> Parts
-    ensures { λ r. ⌜ r ≡ parts-of node ⌝ }
+// The nodes that a node's facts follow from, where its kind and its fields are these: no node is made of them, to be taken apart again.
+fn parts_in(kind: u16, a: u16, b: u16, c: u16) -> Parts
+    ensures { λ r. ⌜ r ≡ parts-of (node-said (announced kind) (a ∷ b ∷ c ∷ [])) ⌝ }
 {
-    match node {
-        Node::And(l, r)
-        | Node::Or(l, r)
-        | Node::Since(l, r, _)
-        | Node::Comparison(_, l, r)
-        | Node::Arith(_, l, r) => Parts::Two(l, r),
-        Node::Not(b)
-        | Node::Formerly(b, _)
-        | Node::Previous(b, _)
-        | Node::Exists(_, _, b)
-        | Node::Sum(_, _, b)
-        | Node::Count(_, b) => Parts::One(b),
-        Node::Predicate(_, list) | Node::Array(list) => Parts::List(list),
-        Node::Refine(b, list) | Node::ArgumentCell(_, b, list) | Node::ItemCell(b, list) => {
-            Parts::Then(b, list)
-        }
+    match kind {
+        0x10 => Parts::Two(NodeNo(a), NodeNo(b)),
+        0x11 => Parts::Two(NodeNo(a), NodeNo(b)),
+        0x12 => Parts::One(NodeNo(a)),
+        0x13 => Parts::One(NodeNo(a)),
+        0x14 => Parts::One(NodeNo(a)),
+        0x15 => Parts::Two(NodeNo(a), NodeNo(b)),
+        0x16 => Parts::One(NodeNo(c)),
+        0x17 => Parts::Two(NodeNo(b), NodeNo(c)),
+        0x18 => Parts::List(NodeNo(b)),
+        0x19 => Parts::Then(NodeNo(a), NodeNo(b)),
+        0x27 => Parts::List(NodeNo(a)),
+        0x28 => Parts::Two(NodeNo(b), NodeNo(c)),
+        0x29 => Parts::One(NodeNo(c)),
+        0x2A => Parts::One(NodeNo(b)),
+        0x31 => Parts::Then(NodeNo(b), NodeNo(c)),
+        0x32 => Parts::Then(NodeNo(a), NodeNo(b)),
         _ => Parts::Leaf,
     }
+}
+
+pub fn parts_at(columns: &[u16; 2049], i: NodeNo) -> Parts
+    requires { ⌜ Has (now columns) (i .0) ⌝ }
+    ensures { λ r. ⌜ r ≡ parts-of (getD (held (now (columns .entry))) (i .0) ListEnd) ⌝ }
+{
+    let kind = number_at(columns, KINDS, i);
+    let a = number_at(columns, FIRSTS, i);
+    let b = number_at(columns, SECONDS, i);
+    let c = number_at(columns, THIRDS, i);
+    parts_in(kind, a, b, c)
 }
 
 // The conditions or the operands of a condition; a refinement's fields and a predicate's arguments are not entered.

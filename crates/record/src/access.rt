@@ -11,23 +11,29 @@ use paper::NodeNo;
 use paper::Verdict;
 use words::unpadded;
 ghost use mathlib.Core.Path.{_≡_};
+ghost use Prim.Native.Nat.{_+_, _≤_};
 ghost use lib.ListN.{getD, take, drop};
 ghost use Rattle.paper.specs.declared.Node.the-variants.{ListEnd};
 ghost use Rattle.paper.specs.Questions.{name as name-asked};
 ghost use Rattle.record.specs.Stored.{held, Has};
 
-// The one function that knows where a node lies.
+// A node's number in a column. The one function that knows where a node lies.
+pub fn number_at(columns: &[u16; 2049], column: usize, i: NodeNo) -> u16
+    requires { ⌜ Has (now columns) (i .0) × (column ≤ 1536) ⌝ }
+    ensures { λ r. ⌜ r ≡ getD (now (columns .entry)) (column + i .0) 0 ⌝ }
+{
+    columns[column + i.0 as usize]
+}
+
 pub fn node_at(columns: &[u16; 2049], i: NodeNo) -> Node
     requires { ⌜ Has (now columns) (i .0) ⌝ }
     ensures { λ r. ⌜ r ≡ getD (held (now (columns .entry))) (i .0) ListEnd ⌝ }
 {
-    let k = i.0 as usize;
-    node_of(
-        columns[KINDS + k],
-        columns[FIRSTS + k],
-        columns[SECONDS + k],
-        columns[THIRDS + k],
-    )
+    let kind = number_at(columns, KINDS, i);
+    let a = number_at(columns, FIRSTS, i);
+    let b = number_at(columns, SECONDS, i);
+    let c = number_at(columns, THIRDS, i);
+    node_of(kind, a, b, c)
 }
 
 // At most 24 bytes from a place on, as far as there are any.

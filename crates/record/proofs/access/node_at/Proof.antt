@@ -1,29 +1,19 @@
 -- `node_at` takes the four numbers of a node from its columns. Assumes nothing.
-use mathlib.Core.Path.{sym, _∙_}
 use native.Mathlib.Omega.{arith}
-use Rattle.memory.proofs.ColumnLaws.{held-at}
-use Rattle.record.proofs.StoredLaws.{few}
-use borrow.Author.Needs.{needs}
+use Rattle.paper.specs.declared.Node.{Node}
+use Rattle.memory.proofs.ColumnLaws.{asked-of}
 use Rattle.record.proofs.access.node_at.Statement.{statement}
 use Rattle.record.proofs.access.node_at.Tie as tie
 
--- in order: of each column that its place is a number and within the array
 pub node-at-spec : {M : Type 1} → statement M
 node-at-spec =
     tie.close
     (tie.spec
-    (λ c. search needs)
-    (λ c. search needs)
-    (λ c. search needs)
-    (λ c. let l = few (c .before .pre) in omega arith)
-    (λ c. search needs)
-    (λ c. search needs)
-    (λ c. let l = few (c .before .before .pre) in omega arith)
-    (λ c. search needs)
-    (λ c. search needs)
-    (λ c. let l = few (c .before .before .before .pre) in omega arith)
-    (λ c. search needs)
-    (λ c. search needs)
-    (λ c. let l = few (c .before .before .before .before .pre) in omega arith)
+    (λ c κs. (c .pre, omega arith))
+    (λ c κs. (c .before .pre, omega arith))
+    (λ c κs. (c .before .before .pre, omega arith))
+    (λ c κs. (c .before .before .before .pre, omega arith))
     (λ c κs. tt)
-    (λ c. c .node-of .ensures ∙ sym (held-at _ _ (c .before .before .before .before .before .before .pre .1))))
+    (λ c. let kind = c .before .before .before .before in
+    asked-of (λ (m : Node). m) _ _ _ _ _ _ (kind .before .pre .1) (kind .number-at .ensures) (c .before .before .before .number-at2 .ensures) (c .before .before .number-at3 .ensures)
+    (c .before .number-at4 .ensures) (c .node-of .ensures)))
