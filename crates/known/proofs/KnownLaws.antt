@@ -21,9 +21,8 @@ use Rattle.paper.proofs.Walks.{All}
 use Rattle.paper.proofs.Weights.{of-sort}
 use Rattle.trees.specs.Trees.{is-condition, is-term}
 use Rattle.trees.proofs.ByKind.{by-kind}
-use Rattle.known.specs.declared.Parts.the-variants.{Leaf}
 use Rattle.known.specs.Plain.{plain, plain-argument, plain-arguments}
-use Rattle.known.specs.Known.{Known, parts-of, nothing, opaque, naming, join, apart, bound, loose, condition-known, term-known, arguments-known, items-known, known-of, own}
+use Rattle.known.specs.Known.{Known, nothing, opaque, naming, join, apart, bound, loose, condition-known, term-known, arguments-known, items-known, known-of, own}
 
 -- ---- putting facts together
 
@@ -194,39 +193,3 @@ opaque-own t =
     (λ l h. absurd (miss opaque-kinds 20 tt h)) (λ o l r h. absurd (miss opaque-kinds 21 tt h)) (λ s l b h. absurd (miss opaque-kinds 22 tt h))
     (λ l b h. absurd (miss opaque-kinds 23 tt h)) (λ y h. refl) (λ h. absurd (miss opaque-kinds 25 tt h)) (λ g x l h. absurd (miss opaque-kinds 26 tt h))
     (λ x l h. absurd (miss opaque-kinds 27 tt h)) (λ s y l h. absurd (miss opaque-kinds 28 tt h))
-
--- what has no part
-abbrev leaf-kinds : List ℕ
-leaf-kinds = 10 ∷ 11 ∷ 12 ∷ 13 ∷ 14 ∷ 15 ∷ 16 ∷ 17 ∷ 18 ∷ 19 ∷ 24 ∷ 25 ∷ 28 ∷ []
-
-pub leaf-parts : (m : Node) → OneOf leaf-kinds (tagOf the-type m) → parts-of m ≡ Leaf
-unfolding parts-of
-leaf-parts (node.And l r) h = absurd (miss leaf-kinds 0 tt h)
-leaf-parts (node.Or l r) h = absurd (miss leaf-kinds 1 tt h)
-leaf-parts (node.Not b) h = absurd (miss leaf-kinds 2 tt h)
-leaf-parts (node.Formerly b w) h = absurd (miss leaf-kinds 3 tt h)
-leaf-parts (node.Previous b w) h = absurd (miss leaf-kinds 4 tt h)
-leaf-parts (node.Since l r w) h = absurd (miss leaf-kinds 5 tt h)
-leaf-parts (node.Exists s y b) h = absurd (miss leaf-kinds 6 tt h)
-leaf-parts (node.Comparison o l r) h = absurd (miss leaf-kinds 7 tt h)
-leaf-parts (node.Predicate a l) h = absurd (miss leaf-kinds 8 tt h)
-leaf-parts (node.Refine b l) h = absurd (miss leaf-kinds 9 tt h)
-leaf-parts (node.Tp s) h = refl
-leaf-parts (node.Call y) h = refl
-leaf-parts (node.SigilRef y) h = refl
-leaf-parts (node.Var x) h = refl
-leaf-parts node.Wildcard h = refl
-leaf-parts (node.Literal y) h = refl
-leaf-parts (node.ScopeField y) h = refl
-leaf-parts (node.ContextField y) h = refl
-leaf-parts (node.ParamRef k) h = refl
-leaf-parts (node.BinderRef k) h = refl
-leaf-parts (node.Array l) h = absurd (miss leaf-kinds 20 tt h)
-leaf-parts (node.Arith o l r) h = absurd (miss leaf-kinds 21 tt h)
-leaf-parts (node.Sum s l b) h = absurd (miss leaf-kinds 22 tt h)
-leaf-parts (node.Count l b) h = absurd (miss leaf-kinds 23 tt h)
-leaf-parts (node.AggregateCall y) h = refl
-leaf-parts node.ListEnd h = refl
-leaf-parts (node.ArgumentCell g x l) h = absurd (miss leaf-kinds 26 tt h)
-leaf-parts (node.ItemCell x l) h = absurd (miss leaf-kinds 27 tt h)
-leaf-parts (node.BinderCell s y l) h = refl

@@ -4,6 +4,7 @@ pub mod RowLaws
 pub mod FieldLaws
 pub mod KindLaws
 pub mod ColumnLaws
+pub mod FillLaws
 pub mod HeadLaws
 pub mod EndLaws
 pub mod NameLaws

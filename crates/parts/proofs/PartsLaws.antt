@@ -3,10 +3,9 @@ use mathlib.Core.Path.{_≡_, refl, sym, ap, _∙_}
 use mathlib.Core.List.{List, [], _∷_, _++_}
 use Prim.Native.Nat.{ℕ}
 use lib.Dec.{eqb}
-use Rattle.paper.specs.declared.NodeNo.{NodeNo}
-use Rattle.paper.specs.Record.{node-no, announced}
+use Rattle.paper.specs.Record.{announced}
 use Rattle.memory.specs.Columns.{node-said}
-use Rattle.memory.proofs.Unnamed.{conditions, terms, cells, Away, Rest, rest-away, all?, among?, away-among, away-both, of-each, says-end}
+use Rattle.memory.proofs.Unnamed.{conditions, terms, cells, Rest, rest-away, all?, among?, away-among, away-both, of-each, says-end}
 use Rattle.known.specs.declared.Parts.{Parts}
 use Rattle.known.specs.declared.Parts.the-variants.{Leaf}
 use Rattle.known.specs.Known.{parts-of}

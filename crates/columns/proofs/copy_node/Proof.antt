@@ -1,9 +1,5 @@
 -- `copy_node` stores the node that its record's bytes say: `copied` has that, whatever the kind. Assumes nothing.
-use denote.Ref.{now}
-use Prim.Native.Nat.{ℕ, _<_}
-use native.Mathlib.Omega.{arith}
-use lib.ListN.{getD}
-use Rattle.memory.proofs.ColumnLaws.{Octets, stores-is, copied}
+use Rattle.memory.proofs.FillLaws.{stores-is, copied}
 use borrow.Author.Needs.{needs}
 use Rattle.columns.proofs.copy_node.Statement.{statement}
 use Rattle.columns.proofs.copy_node.Tie as tie

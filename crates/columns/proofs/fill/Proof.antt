@@ -1,21 +1,13 @@
 -- `fill` goes from node to node: the columns have those before it. Assumes nothing.
-use denote.Ref.{now}
-use mathlib.Core.Path.{_≡_, sym, ap, _∙_}
-use mathlib.Core.List.{List}
-use Prim.Native.Nat.{ℕ, _+_, _-_, _<_, _≤_}
+use Prim.Native.Nat.{_-_}
 use native.Mathlib.Omega.{arith}
-use native.Mathlib.Decide.{decLt}
-use lib.ListN.{length, getD}
-use lib.Seq.{getD-set-same}
-use Rattle.memory.specs.Columns.{node-in, Stores, Copies}
-use Rattle.memory.specs.Decoded.{node-from}
-use Rattle.memory.proofs.ColumnLaws.{SoFar, none-yet, one-more, all-copied}
+use Rattle.memory.proofs.FillLaws.{FirstCopied, none-yet, one-more, all-copied}
 use borrow.Author.Needs.{needs}
 use Rattle.columns.proofs.fill.Statement.{statement}
 use Rattle.columns.proofs.fill.Tie as tie
 
 abbrev Inv-loop : tie.InvT-loop
-Inv-loop bytes starts nodes columns₀ i₀ columns i = SoFar bytes starts nodes columns i
+Inv-loop bytes starts nodes columns₀ i₀ columns i = FirstCopied bytes starts nodes columns i
 
 abbrev μ-loop : tie.MeasureT-loop
 μ-loop bytes starts nodes columns₀ i₀ columns i = nodes - i

@@ -1,5 +1,5 @@
 -- `store` puts the four numbers of a node at its places: `stored` has what the columns then say. Assumes nothing.
-use Rattle.memory.proofs.ColumnLaws.{stored}
+use Rattle.memory.proofs.FillLaws.{stored}
 use borrow.Author.Needs.{needs}
 use Rattle.columns.proofs.store.Statement.{statement}
 use Rattle.columns.proofs.store.Tie as tie

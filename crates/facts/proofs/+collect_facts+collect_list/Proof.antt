@@ -6,7 +6,7 @@ use mathlib.Core.List.{List}
 use native.Mathlib.Omega.{arith}
 use denote.Ref.{now}
 use borrow.Author.Needs.{needs}
-use Rattle.known.specs.Known.{join, nothing, parts-of}
+use Rattle.known.specs.Known.{join, nothing}
 use Rattle.known.specs.Rows.{meant, node-of}
 use Rattle.known.proofs.RowLaws.{put-long, read-right}
 use Rattle.known.proofs.NodeLaws.{node-held, room, call, call-list, Came, came-none, came-one, came-two, came-right, finished}
