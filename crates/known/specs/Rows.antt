@@ -45,7 +45,7 @@ pub record Noted (columns : List ℕ) (rows : List (List ℕ)) : Type 0 where
   pub fits : length (held columns) ≤ length rows
   pub row : (k : ℕ) → k < length (held columns) → has-row columns k ≡ true → Right columns rows k
 
--- what the facts of a node m are found from: the rows of its parts, names of the table, and nodes that the array has
+-- what the facts of a node m are found from: the rows of its parts, names of the table, and nodes that the columns hold
 pub record Sound (columns : List ℕ) (rows : List (List ℕ)) (m : Node) : Type 0 where
   pub parts : All (λ k. (k < length rows) × Right columns rows k) (nodes-of (parts-of m))
   pub has : All (λ q. Has columns (q .1)) (references m)

@@ -17,7 +17,7 @@ ghost use Rattle.paper.specs.declared.Node.the-variants.{ListEnd};
 ghost use Rattle.paper.specs.Questions.{name as name-asked};
 ghost use Rattle.record.specs.Stored.{held, Has};
 
-// A node's number in a column. The one function that knows where a node lies.
+// A node's number in a column. Of those that read, the one function that knows where a node lies.
 pub fn number_at(columns: &[u16; 2049], column: usize, i: NodeNo) -> u16
     requires { ⌜ Has (now columns) (i .0) × (column ≤ 1536) ⌝ }
     ensures { λ r. ⌜ r ≡ getD (now (columns .entry)) (column + i .0) 0 ⌝ }
