@@ -20,7 +20,7 @@ use Rattle.memory.proofs.KindLaws.{begin?, places, known}
 
 -- ---- both layouts
 
--- a body whose bytes are bytes
+-- numbers that are bytes
 abbrev pub Octets : List ℕ → Type 0
 Octets b = (i : ℕ) → getD b i 0 < 256
 

@@ -93,12 +93,6 @@ of-each P (i ∷ is) k a f = go (λ g. of-each P is k (a .1) g) (ℕ-discrete k 
     go later (yes e) = subst P (sym e) (a .0)
     go later (no e) = later (λ w. f (e, w))
 
--- one kind more, which stands between others
-between : (is js : List ℕ) (i k : ℕ) → (k ≡ i → ⊥) → Away (is ++ js) k → Away (is ++ (i ∷ js)) k
-unfolding Away
-between [] js i k h a = (h, a)
-between (x ∷ is) js i k h a = (a .0, between is js i k h (a .1))
-
 pub no-kind : (rs : List Kind) (k : ℕ) → Away (map (λ (r : Kind). r .kind) rs) k → node-kind rs k ≡ unknown
 unfolding Away node-kind
 no-kind [] k a = refl
@@ -114,10 +108,10 @@ no-node false false true xs = refl
 no-node false false false xs = refl
 
 pub says-end : (k : ℕ) (xs : List ℕ) → Away ((conditions ++ terms) ++ cells) k → (t : Bool) → eqb k 0x30 ≡ t → node-said (announced k) xs ≡ ListEnd
-unfolding node-said announced node-kind kinds
+unfolding node-said announced node-kind kinds Away all? among?
 says-end k xs a true e = rw (eqb-true k 0x30 e)
 says-end k xs a false e =
-    rw (no-kind kinds k (between (conditions ++ terms) cells 0x30 k (eqb-false k 0x30 e) a)) (no-node (eqb k 0x01) (eqb k 0x02) (eqb k 0x7F) xs)
+    rw (no-kind kinds k (away-among (map (λ (r : Kind). r .kind) kinds) (0x30 ∷ ((conditions ++ terms) ++ cells)) k refl (eqb-false k 0x30 e, a))) (no-node (eqb k 0x01) (eqb k 0x02) (eqb k 0x7F) xs)
 
 -- a match that names every kind but 0x30
 pub last-arm : (k : ℕ) (xs : List ℕ) → Rest ((conditions ++ terms) ++ cells) k (Unit {0}) → ListEnd ≡ node-said (announced k) xs
