@@ -23,3 +23,4 @@ pub mod Seed
 pub mod Once
 pub mod Parts
 pub mod Answers
+pub mod Bound

@@ -61,7 +61,7 @@ module _ (N M : ℕ) where
     free-within (Tp n s) h = named-within s (h .1)
     free-within (Opaque n k y) h = none-within _
 
-    term-within : (t : Term) → SaneTerm N M t → Within (term-free t) (below M)
+    pub term-within : (t : Term) → SaneTerm N M t → Within (term-free t) (below M)
     term-within (Var n x) h = only-within (x .0) (h .1)
     term-within (Wildcard n) h = none-within _
     term-within (Value n k y) h = none-within _
