@@ -23,7 +23,8 @@ use Rattle.paper.specs.Places.{Cell, for-names, at-cells, gather, at-cell, find
 use Rattle.paper.specs.Scoping.{binder-sigil, cell-of, cells}
 use Rattle.trees.specs.Trees.{tree-of, condition-of, term-of, binders-of}
 use Rattle.trees.proofs.Arms.{Arm}
-use Rattle.trees.proofs.ByKind.{term-cases, binders-cases}
+use Rattle.trees.proofs.ByKind.{term-cases}
+use Rattle.slots.proofs.SlotLaws.{in-cells}
 use Rattle.cells.specs.Aggregates.{skips, five, five-of}
 
 -- ---- cells
@@ -38,33 +39,10 @@ unfolding findings
 cells-append rule s a b = gather-append (at-cell rule s) a b
 
 module _ {columns : List ℕ} {i : ℕ} where
-  pub in-cells : {A : Type 0} (f : Binders → A) {m : Node} → Arm columns i m → f (binders-of columns i) ≡ f (as-binders (planted (tree-of columns) (node-no i) m))
-  in-cells f a = ap (λ (t : Tree). f (as-binders t)) (a .tree)
-
-  pub sigil-cell : {s : Slot} {y : ℕ} {l : NodeNo} → Arm columns i (node.BinderCell s y l)
-      → binder-sigil (binders-of columns i) ≡ (is-sigil s || binder-sigil (binders-of columns (l .0)))
-  unfolding planted as-binders binder-sigil
-  sigil-cell a = in-cells binder-sigil a
-
   pub next-cell : {s : Slot} {y : ℕ} {l : NodeNo} → Arm columns i (node.BinderCell s y l)
       → cells (binders-of columns i) ≡ cell-of (node-no i) s ++ cells (binders-of columns (l .0))
   unfolding planted as-binders cells
   next-cell a = in-cells cells a
-
--- no binder cell
-abbrev no-cell-kinds : List ℕ
-no-cell-kinds = 0 ∷ 1 ∷ 2 ∷ 3 ∷ 4 ∷ 5 ∷ 6 ∷ 7 ∷ 8 ∷ 9 ∷ 10 ∷ 11 ∷ 12 ∷ 13 ∷ 14 ∷ 15 ∷ 16 ∷ 17 ∷ 18 ∷ 19 ∷ 20 ∷ 21 ∷ 22 ∷ 23 ∷ 24 ∷ 25 ∷ 26 ∷ 27 ∷ []
-
--- what is said of a list without a cell
-pub no-cell : {A : Type 0} (f : Binders → A) (v : A) → ((n : NodeNo) → f (no-binder n) ≡ v) → (t : ℕ → Tree) (n : NodeNo) (m : Node)
-    → OneOf no-cell-kinds (tagOf the-type m) → f (as-binders (planted t n m)) ≡ v
-no-cell f v e t n =
-    binders-cases t n (λ m z. OneOf no-cell-kinds (tagOf the-type m) → f z ≡ v)
-    (λ h. e n) (λ s y l h. absurd (miss no-cell-kinds 28 tt h)) (λ m d h. e _)
-
-pub sigil-end : (n : NodeNo) → binder-sigil (no-binder n) ≡ false
-unfolding binder-sigil
-sigil-end n = refl
 
 pub cells-end : (n : NodeNo) → cells (no-binder n) ≡ []
 unfolding cells

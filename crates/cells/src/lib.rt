@@ -1,4 +1,4 @@
-// The binder cells of an aggregate: whether one is a sigil, and entries at them.
+// Entries at the binder cells of an aggregate.
 use names::Names;
 use paper::Finding;
 use paper::Node;
@@ -6,40 +6,13 @@ use paper::NodeNo;
 use paper::Slot;
 use paper::Subject;
 use record::access::node_at;
-use slots::is_sigil;
 use writes::put;
-ghost use mathlib.Core.Path.{_≡_};
 ghost use Rattle.paper.specs.Places.{at-cells, findings};
-ghost use Rattle.paper.specs.Scoping.{binder-sigil, cell-of, cells};
+ghost use Rattle.paper.specs.Scoping.{cell-of, cells};
 ghost use Rattle.names.specs.Words.{mem};
 ghost use Rattle.record.specs.Stored.{Has};
-ghost use Rattle.trees.specs.Trees.{term-of, binders-of};
+ghost use Rattle.trees.specs.Trees.{binders-of};
 ghost use Rattle.writes.specs.Written.{Room, Wrote};
-ghost use Rattle.cells.specs.Aggregates.{skips};
-
-pub fn has_sigil_binder(columns: &[u16; 2049], i: NodeNo) -> bool
-    requires { ⌜ Has (now columns) (i .0) ⌝ }
-    ensures { λ r. ⌜ r ≡ binder-sigil (binders-of (now (columns .entry)) (i .0)) ⌝ }
-{
-    let node = node_at(columns, i);
-    match node {
-        Node::BinderCell(slot, _, rest) => is_sigil(slot) || has_sigil_binder(columns, rest),
-        _ => false,
-    }
-}
-
-// Whether the summed slot or a binder of an aggregate is a sigil.
-pub fn is_skipped(columns: &[u16; 2049], i: NodeNo) -> bool
-    requires { ⌜ Has (now columns) (i .0) ⌝ }
-    ensures { λ r. ⌜ r ≡ skips (term-of (now (columns .entry)) (i .0)) ⌝ }
-{
-    let node = node_at(columns, i);
-    match node {
-        Node::Sum(slot, binders, _) => is_sigil(slot) || has_sigil_binder(columns, binders),
-        Node::Count(binders, _) => has_sigil_binder(columns, binders),
-        _ => false,
-    }
-}
 
 // A rule's entry at a cell, if the cell binds one of some names.
 fn emit_cell(n: NodeNo, slot: Slot, rule: u8, s: Names, out: &mut [u32], at: usize) -> usize

@@ -16,7 +16,7 @@ ghost use Rattle.writes.specs.Written.{Room, Wrote};
 // 28 at the node for each of its free names, ascending.
 pub fn check_leaf_closed(
     columns: &[u16; 2049],
-    rows: &[[u64; 5]],
+    rows: &[[u64; 7]],
     i: NodeNo,
     out: &mut [u32],
     at: usize,

@@ -9,7 +9,7 @@ use paper::NodeNo;
 use parts::Below;
 use parts::entered_below;
 use record::access::node_at;
-use rows::read::is_plain;
+use rows::read::is_met;
 use slots::without_binders;
 ghost use mathlib.Core.Path.{_≡_};
 ghost use mathlib.Core.Bool.{true};
@@ -17,14 +17,14 @@ ghost use Rattle.paper.specs.Places.{condition, operand};
 ghost use Rattle.names.specs.Words.{mem};
 ghost use Rattle.record.specs.Stored.{Has};
 ghost use Rattle.known.specs.Rows.{Noted};
-ghost use Rattle.trees.specs.Trees.{tree-of, is-condition, condition-of, term-of};
+ghost use Rattle.trees.specs.Trees.{tree-of, is-condition, is-term, condition-of, term-of};
 ghost use Rattle.writes.specs.Written.{Room, Wrote};
 ghost use Rattle.owed.specs.Demanded.{demanded};
 
-// The entries of a condition and of what lies below it.
+// The entries of a condition and of what lies below it. Where all that is needed is tied, nothing is entered.
 pub fn check_chain(
     columns: &[u16; 2049],
-    rows: &[[u64; 5]],
+    rows: &[[u64; 7]],
     i: NodeNo,
     tied: Names,
     asked: bool,
@@ -35,7 +35,7 @@ pub fn check_chain(
     requires { ⌜ Room (demanded asked (condition (condition-of (now columns) (i .0))) (mem tied)) at ⌝ }
     ensures { λ r. ⌜ Wrote (demanded asked (condition (condition-of (now (columns .entry)) (i .0))) (mem tied)) at r (now (out .entry)) (now (out .exit)) ⌝ }
 {
-    if is_plain(columns, rows, i) {
+    if is_met(columns, rows, i, tied) {
         return at;
     }
     let node = node_at(columns, i);
@@ -64,16 +64,19 @@ pub fn check_chain(
 // The same of an operand: through arithmetic to the bodies of aggregates.
 pub fn descend_nested_chains(
     columns: &[u16; 2049],
-    rows: &[[u64; 5]],
+    rows: &[[u64; 7]],
     i: NodeNo,
     tied: Names,
     out: &mut [u32],
     at: usize,
 ) -> usize
-    requires { ⌜ Has (now columns) (i .0) × Noted (now columns) (now rows) ⌝ }
+    requires { ⌜ Has (now columns) (i .0) × Noted (now columns) (now rows) × (is-term (tree-of (now columns) (i .0)) ≡ true) ⌝ }
     requires { ⌜ Room (demanded true (operand (term-of (now columns) (i .0))) (mem tied)) at ⌝ }
     ensures { λ r. ⌜ Wrote (demanded true (operand (term-of (now (columns .entry)) (i .0))) (mem tied)) at r (now (out .entry)) (now (out .exit)) ⌝ }
 {
+    if is_met(columns, rows, i, tied) {
+        return at;
+    }
     let node = node_at(columns, i);
     match node {
         Node::Arith(_, l, r) => {

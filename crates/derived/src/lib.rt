@@ -1,49 +1,202 @@
-// A node's facts from those of its parts.
+// A node's facts from those of its parts, by its kind: a function for each number of parts.
 use known::Facts;
-use paper::Node;
+use memory::FIRSTS;
+use memory::KINDS;
+use memory::SECONDS;
+use nodes::lower;
+use nodes::slot_in;
+use paper::NameNo;
+use paper::NodeNo;
+use paper::Slot;
+use record::access::number_at;
 use rows::row::facts_at;
 use slots::binder_names;
+use slots::has_sigil_binder;
 use slots::is_sigil;
 use slots::slot_name;
-use together::apart;
+use together::and_facts;
 use together::bound;
-use together::gathered;
-use together::joined;
+use together::compared;
+use together::join_facts;
 use together::loose;
 use together::naming;
 use together::nothing;
 use together::opaque;
-use together::restricted_at;
-use vars::tied_var;
+use together::or_facts;
+use together::refined;
+use together::searched;
+use together::since_facts;
+use vars::eq_restricted_var;
 ghost use mathlib.Core.Path.{_≡_};
-ghost use Rattle.trees.specs.Trees.{tree-of};
-ghost use Rattle.known.specs.Known.{own};
-ghost use Rattle.known.specs.Rows.{meant, Sound};
+ghost use mathlib.Core.Bool.{_||_};
+ghost use Rattle.record.specs.Stored.{Has};
+ghost use Rattle.paper.specs.Sets.{outside};
+ghost use Rattle.paper.specs.FreeAndRestricted.{is-sigil, binder-names};
+ghost use Rattle.paper.specs.Scoping.{binder-sigil};
+ghost use Rattle.trees.specs.Trees.{tree-of, binders-of};
+ghost use Rattle.trees.specs.Terms.{Tabled};
+ghost use Rattle.known.specs.Needs.{slot-in};
+ghost use Rattle.known.specs.declared.Parts.the-variants.{Leaf, One, Two, List, Then};
+ghost use Rattle.known.specs.Known.{parts-of, own, gathered as gathered-facts};
+ghost use Rattle.known.specs.Rows.{meant, facts-at, node-of, Sound};
 
-// A node's facts, where the rows of its parts hold theirs.
-pub fn facts_of(columns: &[u16; 2049], rows: &[[u64; 5]], node: Node) -> Facts
-    requires { ⌜ Sound (now columns) (now rows) node ⌝ }
-    ensures { λ r. ⌜ meant r ≡ own (tree-of (now (columns .entry))) node ⌝ }
+// What is known of a node that has no parts.
+pub fn leaf_facts(columns: &[u16; 2049], i: NodeNo) -> Facts
+    requires { ⌜ Has (now columns) (i .0) × (Leaf ≡ parts-of (node-of (now columns) (i .0))) ⌝ }
+    ensures { λ f. ⌜ meant f ≡ own (tree-of (now (columns .entry))) (node-of (now (columns .entry)) (i .0)) ⌝ }
 {
-    match node {
-        Node::And(l, r) | Node::Refine(l, r) | Node::ArgumentCell(_, l, r) | Node::ItemCell(l, r) =>
-            joined(rows, l, r),
-        Node::Or(l, r) | Node::Arith(_, l, r) => apart(rows, l, r, names::empty()),
-        Node::Since(l, r, _) => apart(rows, l, r, restricted_at(rows, r)),
-        Node::Comparison(op, l, r) => apart(rows, l, r, tied_var(columns, op, l, r)),
-        Node::Formerly(b, _) | Node::Previous(b, _) | Node::Predicate(_, b) => facts_at(rows, b),
-        Node::Not(b) | Node::Array(b) => loose(rows, b),
-        Node::Exists(slot, _, b) => bound(rows, b, slot_name(slot)),
-        Node::Sum(_, list, b) | Node::Count(list, b) => {
-            gathered(rows, b, binder_names(columns, list))
+    let kind = number_at(columns, KINDS, i);
+    let a = number_at(columns, FIRSTS, i);
+    match kind {
+        0x1A => {
+            let slot = slot_in(a);
+            let own = slot_name(slot);
+            let sigil = is_sigil(slot);
+            naming(own, sigil, true)
         }
-        Node::Tp(slot) => naming(slot_name(slot), is_sigil(slot), false),
-        Node::Var(x) => naming(names::single(x), false, true),
-        Node::Call(_)
-        | Node::SigilRef(_)
-        | Node::ParamRef(_)
-        | Node::BinderRef(_)
-        | Node::AggregateCall(_) => opaque(),
+        0x20 => {
+            let own = names::single(NameNo(lower(a)));
+            naming(own, false, false)
+        }
+        0x1B => opaque(false),
+        0x1C => opaque(false),
+        0x25 => opaque(false),
+        0x26 => opaque(false),
+        0x2B => opaque(true),
         _ => nothing(),
+    }
+}
+
+// An aggregate over a body: its binders are taken out, and it restricts nothing. What is skipped is found nothing at.
+fn gathered(
+    columns: &[u16; 2049],
+    body: Facts,
+    list: NodeNo,
+    skipped: bool,
+    unsummed: bool,
+) -> Facts
+    requires { ⌜ Has (now columns) (list .0) ⌝ }
+    ensures { λ f. ⌜ meant f ≡ gathered-facts (meant body) (binders-of (now (columns .entry)) (list .0)) skipped unsummed ⌝ }
+{
+    let own = binder_names(columns, list);
+    let free = names::minus(body.free, own);
+    let need = names::minus(body.need, own);
+    let met = names::disjoint(own, body.need);
+    let tied = names::within(own, body.restricted);
+    let closed = names::is_empty(free);
+    let none = names::empty();
+    Facts {
+        free: free,
+        restricted: none,
+        need: need,
+        sigil: body.sigil,
+        hard: body.hard | !met,
+        broken: !skipped & (body.broken | (unsummed | !tied)),
+        binds: !skipped,
+        unclosed: !skipped & (body.unclosed | !closed),
+        computed: true,
+    }
+}
+
+// A Sum, whose slot may be a sigil, or a name that no binder has.
+fn summed(columns: &[u16; 2049], body: Facts, slot: Slot, list: NodeNo) -> Facts
+    requires { ⌜ Has (now columns) (list .0) × Tabled slot ⌝ }
+    ensures { λ f. ⌜ meant f ≡ gathered-facts (meant body) (binders-of (now (columns .entry)) (list .0)) (is-sigil slot || binder-sigil (binders-of (now (columns .entry)) (list .0))) (slot-in slot (outside (binder-names (binders-of (now (columns .entry)) (list .0))))) ⌝ }
+{
+    let own = slot_name(slot);
+    let bound = binder_names(columns, list);
+    let summed = names::within(own, bound);
+    let sigil = is_sigil(slot);
+    let skipped = has_sigil_binder(columns, list);
+    gathered(columns, body, list, sigil | skipped, !summed)
+}
+
+// What is known of a node that has one part.
+pub fn one_facts(columns: &[u16; 2049], rows: &[[u64; 7]], i: NodeNo, b: NodeNo) -> Facts
+    requires { ⌜ Has (now columns) (i .0) × (One b ≡ parts-of (node-of (now columns) (i .0))) × Sound (now columns) (now rows) (node-of (now columns) (i .0)) ⌝ }
+    ensures { λ f. ⌜ meant f ≡ own (tree-of (now (columns .entry))) (node-of (now (columns .entry)) (i .0)) ⌝ }
+{
+    let body = facts_at(rows, b);
+    let kind = number_at(columns, KINDS, i);
+    let a = number_at(columns, FIRSTS, i);
+    match kind {
+        0x12 => loose(body),
+        0x16 => {
+            let slot = slot_in(a);
+            bound(body, slot)
+        }
+        0x29 => {
+            let slot = slot_in(a);
+            let list = number_at(columns, SECONDS, i);
+            summed(columns, body, slot, NodeNo(list))
+        }
+        0x2A => {
+            let skipped = has_sigil_binder(columns, NodeNo(a));
+            gathered(columns, body, NodeNo(a), skipped, false)
+        }
+        _ => body,
+    }
+}
+
+// What is known of a node that has two parts.
+pub fn two_facts(
+    columns: &[u16; 2049],
+    rows: &[[u64; 7]],
+    i: NodeNo,
+    l: NodeNo,
+    r: NodeNo,
+) -> Facts
+    requires { ⌜ Has (now columns) (i .0) × (Two l r ≡ parts-of (node-of (now columns) (i .0))) × Sound (now columns) (now rows) (node-of (now columns) (i .0)) ⌝ }
+    ensures { λ f. ⌜ meant f ≡ own (tree-of (now (columns .entry))) (node-of (now (columns .entry)) (i .0)) ⌝ }
+{
+    let left = facts_at(rows, l);
+    let right = facts_at(rows, r);
+    let kind = number_at(columns, KINDS, i);
+    match kind {
+        0x10 => and_facts(left, right),
+        0x11 => or_facts(left, right, false),
+        0x15 => since_facts(left, right),
+        0x17 => {
+            let op = lower(number_at(columns, FIRSTS, i));
+            let side = eq_restricted_var(columns, op, l, r);
+            compared(side, left, right)
+        }
+        _ => or_facts(left, right, true),
+    }
+}
+
+// What is known of a predicate or an array, from its list.
+pub fn list_facts(columns: &[u16; 2049], rows: &[[u64; 7]], i: NodeNo, list: NodeNo) -> Facts
+    requires { ⌜ Has (now columns) (i .0) × (List list ≡ parts-of (node-of (now columns) (i .0))) × Sound (now columns) (now rows) (node-of (now columns) (i .0)) ⌝ }
+    ensures { λ f. ⌜ meant f ≡ own (tree-of (now (columns .entry))) (node-of (now (columns .entry)) (i .0)) ⌝ }
+{
+    let terms = facts_at(rows, list);
+    let kind = number_at(columns, KINDS, i);
+    match kind {
+        0x18 => searched(terms, terms.restricted, false),
+        _ => {
+            let none = names::empty();
+            searched(terms, none, terms.computed)
+        }
+    }
+}
+
+// What is known of a refinement, or of a cell of a list.
+pub fn then_facts(
+    columns: &[u16; 2049],
+    rows: &[[u64; 7]],
+    i: NodeNo,
+    first: NodeNo,
+    list: NodeNo,
+) -> Facts
+    requires { ⌜ Has (now columns) (i .0) × (Then first list ≡ parts-of (node-of (now columns) (i .0))) × Sound (now columns) (now rows) (node-of (now columns) (i .0)) ⌝ }
+    ensures { λ f. ⌜ meant f ≡ own (tree-of (now (columns .entry))) (node-of (now (columns .entry)) (i .0)) ⌝ }
+{
+    let base = facts_at(rows, first);
+    let fields = facts_at(rows, list);
+    let kind = number_at(columns, KINDS, i);
+    match kind {
+        0x19 => refined(base, fields),
+        _ => join_facts(base, fields),
     }
 }

@@ -16,7 +16,7 @@ fn part_noted(
     columns: &[u16; 2049],
     i: NodeNo,
     check: Check,
-    rows: &mut [[u64; 5]],
+    rows: &mut [[u64; 7]],
     out: &mut [u32],
 ) -> usize
     requires { ⌜ Last (now columns) (i .0) × (i .0 < length (now rows)) ⌝ }
@@ -33,7 +33,7 @@ pub fn part_entries(columns: &[u16; 2049], i: NodeNo, check: Check, out: &mut [u
     requires { ⌜ Room (part-of check i (condition-of (now columns) (i .0))) 0 ⌝ }
     ensures { λ r. ⌜ Wrote (part-of check i (condition-of (now (columns .entry)) (i .0))) 0 r (now (out .entry)) (now (out .exit)) ⌝ }
 {
-    let blank = [0u64; 5];
+    let blank = [0u64; 7];
     if i.0 < 32 {
         let mut few = [blank; 32];
         return part_noted(columns, i, check, &mut few, out);
@@ -46,7 +46,7 @@ fn list_noted(
     columns: &[u16; 2049],
     i: NodeNo,
     words: Names,
-    rows: &mut [[u64; 5]],
+    rows: &mut [[u64; 7]],
     out: &mut [u32],
 ) -> usize
     requires { ⌜ Last (now columns) (i .0) × (i .0 < length (now rows)) ⌝ }
@@ -71,7 +71,7 @@ pub fn list_entries(columns: &[u16; 2049], i: NodeNo, words: Names, out: &mut [u
     requires { ⌜ Room (listed (mem words) i (condition-of (now columns) (i .0))) 0 ⌝ }
     ensures { λ r. ⌜ Filled (listed (mem words) i (condition-of (now (columns .entry)) (i .0))) r (now (out .entry)) (now (out .exit)) ⌝ }
 {
-    let blank = [0u64; 5];
+    let blank = [0u64; 7];
     if i.0 < 32 {
         let mut few = [blank; 32];
         return list_noted(columns, i, words, &mut few, out);

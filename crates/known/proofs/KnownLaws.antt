@@ -1,6 +1,6 @@
 -- What is known of a node's tree is what its parts give (`planted-known`). Assumes nothing.
 use mathlib.Core.Path.{_≡_, refl, sym, ap, ap₂, _∙_, fun-ext}
-use mathlib.Core.Bool.{Bool, true, false, _||_, _&&_, true≢false}
+use mathlib.Core.Bool.{Bool, true, false, _||_, true≢false}
 use mathlib.Core.List.{List, [], _∷_}
 use Prim.Native.Nat.{ℕ}
 use types.Run.{OneOf, miss}
@@ -9,50 +9,57 @@ use Rattle.paper.proofs.Node.{the-type}
 use Rattle.paper.specs.declared.NodeNo.{NodeNo}
 use Rattle.paper.specs.declared.Node.{Node}
 use Rattle.paper.specs.declared.Node.the-variants as node
-use Rattle.paper.specs.Sets.{Set, none, _∪_}
+use Rattle.paper.specs.Sets.{Set, none, _∪_, outside}
 use Rattle.paper.specs.Record.{condition, term, arguments, items, binders}
 use Rattle.paper.specs.Shape.{references}
 use Rattle.paper.specs.Tree as tree
 use Rattle.paper.specs.Tree.{Arguments, Items, Tree, as-condition, as-term, as-arguments, as-items, as-binders, planted}
 use Rattle.paper.specs.Tree.Arguments.{no-argument, argument}
 use Rattle.paper.specs.Tree.Items.{no-item, item}
-use Rattle.paper.specs.FreeAndRestricted.{named, binder-names, free, term-free, arguments-free, items-free, bare, about, direct, tied, tied-name, restricted, holds-sigil, term-sigil, arguments-sigil, items-sigil}
+use Rattle.paper.specs.FreeAndRestricted.{is-sigil, binder-names, free, term-free, arguments-free, items-free, bare, about, direct, tied, tied-name, restricted, holds-sigil, term-sigil, arguments-sigil, items-sigil}
 use Rattle.paper.proofs.Walks.{All}
 use Rattle.paper.proofs.Weights.{of-sort}
 use Rattle.trees.specs.Trees.{is-condition, is-term}
 use Rattle.trees.proofs.ByKind.{by-kind}
-use Rattle.known.specs.Plain.{plain, plain-argument, plain-arguments}
-use Rattle.known.specs.Known.{Known, nothing, opaque, naming, join, apart, bound, loose, condition-known, term-known, arguments-known, items-known, known-of, own}
+use Rattle.paper.specs.Scoping.{binder-sigil}
+use Rattle.known.specs.Needs.{slot-in, need, hard, unfit, computed, arguments-computed, items-computed, broken, binds, unclosed}
+use Rattle.known.specs.Known.{Known, nothing, way, from-parts, parts-of, opaque, naming, both, join, searched, loose, refined, bound, gathered, and-known, or-known, since-known, compared, condition-known, term-known, arguments-known, items-known, known-of, own}
 
 -- ---- putting facts together
 
-pub join-nothing : (a : Known) → join a nothing ≡ a
-unfolding join nothing _∪_ none
-join-nothing a =
-    ap₂ (λ (f g : Set). record { free = f; restricted = g; sigil = a .sigil || false; plain = a .plain && true }) (fun-ext (λ k. or-false (a .free k))) (fun-ext (λ k. or-false (a .restricted k)))
-    ∙ ap₂ (λ (s p : Bool). record { free = a .free; restricted = a .restricted; sigil = s; plain = p }) (or-false (a .sigil)) (and-true (a .plain))
-  where
-    or-false : (b : Bool) → (b || false) ≡ b
-    or-false true = refl
-    or-false false = refl
+known-is : {f f' g g' h h' : Set} {a a' b b' c c' d d' e e' k k' : Bool} → f ≡ f' → g ≡ g' → h ≡ h' → a ≡ a' → b ≡ b' → c ≡ c' → d ≡ d' → e ≡ e' → k ≡ k'
+    → _≡_ {A = Known} (record { free = f; restricted = g; need = h; sigil = a; hard = b; broken = c; binds = d; unclosed = e; computed = k })
+    (record { free = f'; restricted = g'; need = h'; sigil = a'; hard = b'; broken = c'; binds = d'; unclosed = e'; computed = k' })
+known-is p q r s t u v w x = rw (p, q, r, s, t, u, v, w, x)
 
-    and-true : (b : Bool) → (b && true) ≡ b
-    and-true true = refl
-    and-true false = refl
+or-false : (b : Bool) → (b || false) ≡ b
+or-false true = refl
+or-false false = refl
+
+or-or : (x y z : Bool) → ((x || y) || z) ≡ (x || (y || z))
+or-or true y z = refl
+or-or false y z = refl
+
+union-none : (a : Set) → a ∪ none ≡ a
+unfolding _∪_ none
+union-none a = fun-ext (λ k. or-false (a k))
+
+union-union : (a b c : Set) → (a ∪ b) ∪ c ≡ a ∪ (b ∪ c)
+unfolding _∪_
+union-union a b c = fun-ext (λ k. or-or (a k) (b k) (c k))
+
+pub join-nothing : (a : Known) → join a nothing ≡ a
+unfolding join both nothing
+join-nothing a =
+    known-is (union-none (a .free)) (union-none (a .restricted)) (union-none (a .need)) (or-false (a .sigil)) (or-false (a .hard)) (or-false (a .broken))
+    (or-false (a .binds)) (or-false (a .unclosed)) (or-false (a .computed))
 
 pub join-assoc : (a b c : Known) → join (join a b) c ≡ join a (join b c)
-unfolding join _∪_
+unfolding join both
 join-assoc a b c =
-    ap₂ (λ (f g : Set). record { free = f; restricted = g; sigil = a .sigil || b .sigil || c .sigil; plain = (a .plain && b .plain) && c .plain }) (fun-ext (λ k. or-or (a .free k) (b .free k) (c .free k))) (fun-ext (λ k. or-or (a .restricted k) (b .restricted k) (c .restricted k)))
-    ∙ ap₂ (λ (s p : Bool). record { free = a .free ∪ (b .free ∪ c .free); restricted = a .restricted ∪ (b .restricted ∪ c .restricted); sigil = s; plain = p }) (or-or (a .sigil) (b .sigil) (c .sigil)) (and-and (a .plain) (b .plain) (c .plain))
-  where
-    or-or : (x y z : Bool) → ((x || y) || z) ≡ (x || (y || z))
-    or-or true y z = refl
-    or-or false y z = refl
-
-    and-and : (x y z : Bool) → ((x && y) && z) ≡ (x && (y && z))
-    and-and true y z = refl
-    and-and false y z = refl
+    known-is (union-union (a .free) (b .free) (c .free)) (union-union (a .restricted) (b .restricted) (c .restricted)) (union-union (a .need) (b .need) (c .need))
+    (or-or (a .sigil) (b .sigil) (c .sigil)) (or-or (a .hard) (b .hard) (c .hard)) (or-or (a .broken) (b .broken) (c .broken))
+    (or-or (a .binds) (b .binds) (c .binds)) (or-or (a .unclosed) (b .unclosed) (c .unclosed)) (or-or (a .computed) (b .computed) (c .computed))
 
 -- ---- at a place of its sort
 
@@ -110,34 +117,72 @@ term-is (tree.items l) e = absurd (true≢false (sym e))
 term-is (tree.binders l) e = absurd (true≢false (sym e))
 term-is (tree.an-end n) e = absurd (true≢false (sym e))
 
--- ---- the facts of lists are the paper's
+-- ---- the facts of lists are the paper's, as far as they are asked
 
-arguments-are : (l : Arguments) → arguments-known l ≡ record { free = arguments-free l; restricted = direct l; sigil = arguments-sigil l; plain = plain-arguments l }
-unfolding arguments-known term-known join nothing arguments-free direct arguments-sigil plain-arguments
-arguments-are (no-argument n) = refl
-arguments-are (argument n f t l) = ap (join (term-known t)) (arguments-are l)
+arguments-are-free : (l : Arguments) → arguments-known l .free ≡ arguments-free l
+unfolding arguments-free arguments-known none nothing join _∪_ both term-known
+arguments-are-free (no-argument n) = refl
+arguments-are-free (argument n f t l) = ap (_∪_ (term-free t)) (arguments-are-free l)
 
--- of items only what an array keeps
-items-are : (l : Items) → loose (items-known l) ≡ record { free = items-free l; restricted = none; sigil = items-sigil l; plain = false }
-unfolding items-known term-known join loose nothing items-free items-sigil
-items-are (no-item n) = refl
-items-are (item n t l) = ap (λ (k : Known). loose (join (term-known t) k)) (items-are l)
+arguments-are-direct : (l : Arguments) → arguments-known l .restricted ≡ direct l
+unfolding direct arguments-known none nothing join _∪_ both term-known about
+arguments-are-direct (no-argument n) = refl
+arguments-are-direct (argument n f t l) = ap (_∪_ (about (bare t))) (arguments-are-direct l)
+
+arguments-are-sigils : (l : Arguments) → arguments-known l .sigil ≡ arguments-sigil l
+unfolding arguments-sigil arguments-known nothing join both term-known
+arguments-are-sigils (no-argument n) = refl
+arguments-are-sigils (argument n f t l) = ap (_||_ (term-sigil t)) (arguments-are-sigils l)
+
+arguments-are-computed : (l : Arguments) → arguments-known l .computed ≡ arguments-computed l
+unfolding arguments-computed arguments-known nothing join computed both term-known
+arguments-are-computed (no-argument n) = refl
+arguments-are-computed (argument n f t l) = ap (_||_ (computed t)) (arguments-are-computed l)
+
+items-are-free : (l : Items) → items-known l .free ≡ items-free l
+unfolding items-free items-known none nothing join _∪_ both term-known
+items-are-free (no-item n) = refl
+items-are-free (item n t l) = ap (_∪_ (term-free t)) (items-are-free l)
+
+items-are-sigils : (l : Items) → items-known l .sigil ≡ items-sigil l
+unfolding items-sigil items-known nothing join both term-known
+items-are-sigils (no-item n) = refl
+items-are-sigils (item n t l) = ap (_||_ (term-sigil t)) (items-are-sigils l)
+
+items-are-computed : (l : Items) → items-known l .computed ≡ items-computed l
+unfolding items-computed items-known nothing join both term-known
+items-are-computed (no-item n) = refl
+items-are-computed (item n t l) = ap (_||_ (computed t)) (items-are-computed l)
+
+predicate-known : (n : NodeNo) (a : ℕ) (l : Arguments) → searched (arguments-known l) (arguments-known l .restricted) false ≡ condition-known (tree.Predicate n a l)
+unfolding searched condition-known free restricted need none holds-sigil hard broken binds unclosed
+predicate-known n a l = known-is (arguments-are-free l) (arguments-are-direct l) refl (arguments-are-sigils l) refl (arguments-are-computed l) refl refl refl
+
+array-known : (n : NodeNo) (l : Items) → searched (items-known l) none (items-known l .computed) ≡ term-known (tree.Array n l)
+unfolding searched term-known free about bare none need holds-sigil hard broken binds unclosed computed
+array-known n l = known-is (items-are-free l) refl refl (items-are-sigils l) refl (items-are-computed l) refl refl (items-are-computed l)
+
+refine-known : (n : NodeNo) (b : tree.Condition) (l : Arguments) → refined (condition-known b) (arguments-known l) ≡ condition-known (tree.Refine n b l)
+unfolding refined condition-known free restricted need holds-sigil hard broken binds unclosed
+refine-known n b l =
+    known-is (ap (_∪_ (free b)) (arguments-are-free l)) (ap (_∪_ (restricted b)) (arguments-are-direct l)) refl (ap (_||_ (holds-sigil b)) (arguments-are-sigils l))
+    refl refl refl refl refl
 
 -- ---- a node's tree
 
 pub planted-known : (t : ℕ → Tree) (n : NodeNo) (m : Node) → All (λ p. of-sort (p .0) (t (p .1)) ≡ true) (references m) → known-of (planted t n m) ≡ own t m
-unfolding planted known-of own condition-known term-known arguments-known items-known free term-free restricted holds-sigil term-sigil bare about plain plain-argument binder-names join apart bound loose naming nothing opaque
-planted-known t n (node.And l r) f = ap₂ join (sym (body-known _ (f .0))) (sym (body-known _ (f .1 .0)))
-planted-known t n (node.Or l r) f = ap₂ (λ (a b : Known). apart a b none) (sym (body-known _ (f .0))) (sym (body-known _ (f .1 .0)))
+unfolding planted known-of own way from-parts parts-of condition-known term-known arguments-known items-known free restricted about bare holds-sigil need hard broken binds unclosed computed and-known or-known since-known compared bound gathered unfit loose naming nothing opaque both
+planted-known t n (node.And l r) f = ap₂ and-known (sym (body-known _ (f .0))) (sym (body-known _ (f .1 .0)))
+planted-known t n (node.Or l r) f = ap₂ (λ (a b : Known). or-known a b false) (sym (body-known _ (f .0))) (sym (body-known _ (f .1 .0)))
 planted-known t n (node.Not b) f = ap loose (sym (body-known _ (f .0)))
 planted-known t n (node.Formerly b w) f = sym (body-known _ (f .0))
 planted-known t n (node.Previous b w) f = sym (body-known _ (f .0))
-planted-known t n (node.Since l r w) f = ap₂ (λ (a b : Known). apart a b (b .restricted)) (sym (body-known _ (f .0))) (sym (body-known _ (f .1 .0)))
-planted-known t n (node.Exists s y b) f = ap (λ (a : Known). bound a (named s)) (sym (body-known _ (f .0)))
+planted-known t n (node.Since l r w) f = ap₂ since-known (sym (body-known _ (f .0))) (sym (body-known _ (f .1 .0)))
+planted-known t n (node.Exists s y b) f = ap (λ (a : Known). bound a s) (sym (body-known _ (f .0)))
 planted-known t n (node.Comparison o l r) f =
-    ap₂ (λ (a b : Known). apart a b (tied-name (tied o (as-term (t (l .0))) (as-term (t (r .0)))))) (sym (one-known _ (f .0))) (sym (one-known _ (f .1 .0)))
-planted-known t n (node.Predicate a l) f = sym (list-known _ (f .0) ∙ arguments-are _)
-planted-known t n (node.Refine b l) f = ap₂ join (sym (body-known _ (f .0))) (sym (list-known _ (f .1 .0) ∙ arguments-are _))
+    ap₂ (compared (tied o (as-term (t (l .0))) (as-term (t (r .0))))) (sym (one-known _ (f .0))) (sym (one-known _ (f .1 .0)))
+planted-known t n (node.Predicate a l) f = sym (ap (λ (k : Known). searched k (k .restricted) false) (list-known _ (f .0)) ∙ predicate-known n a (as-arguments (t (l .0))))
+planted-known t n (node.Refine b l) f = sym (ap₂ refined (body-known _ (f .0)) (list-known _ (f .1 .0)) ∙ refine-known n (as-condition (t (b .0))) (as-arguments (t (l .0))))
 planted-known t n (node.Tp s) f = refl
 planted-known t n (node.Call y) f = refl
 planted-known t n (node.SigilRef y) f = refl
@@ -148,48 +193,14 @@ planted-known t n (node.ScopeField y) f = refl
 planted-known t n (node.ContextField y) f = refl
 planted-known t n (node.ParamRef k) f = refl
 planted-known t n (node.BinderRef k) f = refl
-planted-known t n (node.Array l) f = sym (ap loose (row-known _ (f .0)) ∙ items-are (as-items (t (l .0))))
-planted-known t n (node.Arith o l r) f = ap₂ (λ (a b : Known). apart a b none) (sym (one-known _ (f .0))) (sym (one-known _ (f .1 .0)))
-planted-known t n (node.Sum s l b) f = ap (λ (a : Known). loose (bound a (binder-names (as-binders (t (l .0)))))) (sym (body-known _ (f .1 .0)))
-planted-known t n (node.Count l b) f = ap (λ (a : Known). loose (bound a (binder-names (as-binders (t (l .0)))))) (sym (body-known _ (f .1 .0)))
+planted-known t n (node.Array l) f = sym (ap (λ (k : Known). searched k none (k .computed)) (row-known _ (f .0)) ∙ array-known n (as-items (t (l .0))))
+planted-known t n (node.Arith o l r) f = ap₂ (λ (a b : Known). or-known a b true) (sym (one-known _ (f .0))) (sym (one-known _ (f .1 .0)))
+planted-known t n (node.Sum s l b) f =
+    let list = as-binders (t (l .0)) in
+    ap (λ (a : Known). gathered a list (is-sigil s || binder-sigil list) (slot-in s (outside (binder-names list)))) (sym (body-known _ (f .1 .0)))
+planted-known t n (node.Count l b) f = let list = as-binders (t (l .0)) in ap (λ (a : Known). gathered a list (binder-sigil list) false) (sym (body-known _ (f .1 .0)))
 planted-known t n (node.AggregateCall y) f = refl
 planted-known t n node.ListEnd f = refl
 planted-known t n (node.ArgumentCell g x l) f = ap₂ join (sym (one-known _ (f .0))) (sym (list-known _ (f .1 .0)))
 planted-known t n (node.ItemCell x l) f = ap₂ join (sym (one-known _ (f .0))) (sym (row-known _ (f .1 .0)))
 planted-known t n (node.BinderCell s y l) f = refl
-
--- what has no part, no name and no sigil
-abbrev plain-kinds : List ℕ
-plain-kinds = 14 ∷ 15 ∷ 16 ∷ 17 ∷ 25 ∷ 28 ∷ []
-
-pub nothing-own : (t : ℕ → Tree) (m : Node) → OneOf plain-kinds (tagOf the-type m) → own t m ≡ nothing
-unfolding own
-nothing-own t =
-    by-kind (λ m. OneOf plain-kinds (tagOf the-type m) → own t m ≡ nothing)
-    (λ l r h. absurd (miss plain-kinds 0 tt h)) (λ l r h. absurd (miss plain-kinds 1 tt h)) (λ b h. absurd (miss plain-kinds 2 tt h))
-    (λ b w h. absurd (miss plain-kinds 3 tt h)) (λ b w h. absurd (miss plain-kinds 4 tt h)) (λ l r w h. absurd (miss plain-kinds 5 tt h))
-    (λ s y b h. absurd (miss plain-kinds 6 tt h)) (λ o l r h. absurd (miss plain-kinds 7 tt h)) (λ a l h. absurd (miss plain-kinds 8 tt h))
-    (λ b l h. absurd (miss plain-kinds 9 tt h)) (λ s h. absurd (miss plain-kinds 10 tt h)) (λ y h. absurd (miss plain-kinds 11 tt h))
-    (λ y h. absurd (miss plain-kinds 12 tt h)) (λ x h. absurd (miss plain-kinds 13 tt h)) (λ h. refl) (λ y h. refl) (λ y h. refl) (λ y h. refl)
-    (λ k h. absurd (miss plain-kinds 18 tt h)) (λ k h. absurd (miss plain-kinds 19 tt h)) (λ l h. absurd (miss plain-kinds 20 tt h))
-    (λ o l r h. absurd (miss plain-kinds 21 tt h)) (λ s l b h. absurd (miss plain-kinds 22 tt h)) (λ l b h. absurd (miss plain-kinds 23 tt h))
-    (λ y h. absurd (miss plain-kinds 24 tt h)) (λ h. refl) (λ g x l h. absurd (miss plain-kinds 26 tt h)) (λ x l h. absurd (miss plain-kinds 27 tt h))
-    (λ s y l h. refl)
-
--- Call, SigilRef, ParamRef, BinderRef and the aggregate Call
-abbrev opaque-kinds : List ℕ
-opaque-kinds = 11 ∷ 12 ∷ 18 ∷ 19 ∷ 24 ∷ []
-
-pub opaque-own : (t : ℕ → Tree) (m : Node) → OneOf opaque-kinds (tagOf the-type m) → own t m ≡ opaque
-unfolding own
-opaque-own t =
-    by-kind (λ m. OneOf opaque-kinds (tagOf the-type m) → own t m ≡ opaque)
-    (λ l r h. absurd (miss opaque-kinds 0 tt h)) (λ l r h. absurd (miss opaque-kinds 1 tt h)) (λ b h. absurd (miss opaque-kinds 2 tt h))
-    (λ b w h. absurd (miss opaque-kinds 3 tt h)) (λ b w h. absurd (miss opaque-kinds 4 tt h)) (λ l r w h. absurd (miss opaque-kinds 5 tt h))
-    (λ s y b h. absurd (miss opaque-kinds 6 tt h)) (λ o l r h. absurd (miss opaque-kinds 7 tt h)) (λ a l h. absurd (miss opaque-kinds 8 tt h))
-    (λ b l h. absurd (miss opaque-kinds 9 tt h)) (λ s h. absurd (miss opaque-kinds 10 tt h)) (λ y h. refl) (λ y h. refl)
-    (λ x h. absurd (miss opaque-kinds 13 tt h)) (λ h. absurd (miss opaque-kinds 14 tt h)) (λ y h. absurd (miss opaque-kinds 15 tt h))
-    (λ y h. absurd (miss opaque-kinds 16 tt h)) (λ y h. absurd (miss opaque-kinds 17 tt h)) (λ k h. refl) (λ k h. refl)
-    (λ l h. absurd (miss opaque-kinds 20 tt h)) (λ o l r h. absurd (miss opaque-kinds 21 tt h)) (λ s l b h. absurd (miss opaque-kinds 22 tt h))
-    (λ l b h. absurd (miss opaque-kinds 23 tt h)) (λ y h. refl) (λ h. absurd (miss opaque-kinds 25 tt h)) (λ g x l h. absurd (miss opaque-kinds 26 tt h))
-    (λ x l h. absurd (miss opaque-kinds 27 tt h)) (λ s y l h. absurd (miss opaque-kinds 28 tt h))

@@ -4,3 +4,8 @@ pub mod PartLaws
 pub mod NodeLaws
 pub mod ListLaws
 pub mod RowLaws
+pub mod Covers
+pub mod MetLaws
+pub mod SoundLaws
+pub mod Marked
+pub mod WayLaws

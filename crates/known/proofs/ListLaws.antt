@@ -23,7 +23,7 @@ use Rattle.known.specs.declared.Parts.{Parts}
 use Rattle.known.specs.declared.Parts.the-variants as parts
 use Rattle.known.specs.declared.Facts.{Facts}
 use Rattle.known.proofs.Parts.{the-type}
-use Rattle.known.specs.Known.{Known, nothing, join, known-of, parts-of, nodes-of, own}
+use Rattle.known.specs.Known.{Known, nothing, both, join, known-of, parts-of, nodes-of, way, from-parts, own}
 use Rattle.known.specs.Rows.{meant, Right, has-row, node-of, Put, Kept, Reaches, Gathered}
 use Rattle.known.proofs.KnownLaws.{planted-known, join-nothing, join-assoc}
 use Rattle.known.proofs.PartLaws.{Held, held, known-arm, reached-in, row-unread}
@@ -39,7 +39,7 @@ Cell t k (parts.Then x l) = k ≡ join (known-of (t (x .0))) (known-of (t (l .0)
 
 cell : (t : ℕ → Tree) (n : NodeNo) (m : Node) → All (λ p. of-sort (p .0) (t (p .1)) ≡ true) (references m) → is-row (planted t n m) ≡ true
     → Cell t (known-of (planted t n m)) (parts-of m)
-unfolding planted is-row parts-of own
+unfolding planted is-row parts-of own way from-parts nothing
 cell t n (node.And l r) f e = absurd (true≢false (sym e))
 cell t n (node.Or l r) f e = absurd (true≢false (sym e))
 cell t n (node.Not b) f e = absurd (true≢false (sym e))
@@ -89,7 +89,7 @@ pub record Along (columns : List ℕ) (before rows : List (List ℕ)) (all : Kno
 
 pub along-start : {columns : List ℕ} {rows : List (List ℕ)} {list : ℕ} {all : Known} → all ≡ nothing → Has columns list → is-row (tree-of columns list) ≡ true
     → Along columns rows rows all list list
-unfolding join nothing _∪_ none
+unfolding join both nothing _∪_ none
 along-start {columns} {list = list} e h r =
     record { kept = kept-same; has = h; row = r; joined = ap (λ (z : Known). join z (known-of (tree-of columns list))) e; passed = λ k s t. inr s }
 

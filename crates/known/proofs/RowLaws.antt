@@ -9,12 +9,13 @@ use lib.ListN.{length, length-set}
 use lib.Seq.{getD-set-same, getD-set-other}
 use borrow.Author.Tests.{eqb-true, eqb-false}
 use Rattle.paper.specs.Record.{Sort, condition, term}
+use Rattle.paper.specs.Tree.{Tree}
 use Rattle.record.specs.Stored.{held, Has, Formed}
 use Rattle.trees.specs.Trees.{tree-of, condition-of, term-of, is-condition, is-term}
 use Rattle.trees.proofs.Arms.{Child, down}
 use Rattle.trees.proofs.Sorts.{a-body, a-term}
 use Rattle.known.specs.Known.{condition-known, term-known, known-of}
-use Rattle.known.specs.Rows.{meant, facts-in, facts-at, Right, Noted, Put, Kept, Gathered}
+use Rattle.known.specs.Rows.{meant, facts-in, facts-at, has-row, Right, Noted, Put, Kept, Gathered}
 use Rattle.known.specs.declared.Facts.{Facts}
 use Rattle.known.proofs.KnownLaws.{condition-is, term-is}
 use Rattle.known.proofs.Reached.{every-reached}
@@ -56,17 +57,28 @@ read-right e r = ap meant e ∙ r .holds
 
 -- ---- what walks read
 
+pub noted : {columns : List ℕ} {rows : List (List ℕ)} {k : ℕ} {f : Facts} → Noted columns rows → k < length (held columns) → has-row columns k ≡ true
+    → f ≡ facts-at rows k → meant f ≡ known-of (tree-of columns k)
+noted {k = k} n l h e = read-right e (n .row k l h)
+
+-- a condition has a row, and a term
+pub body-had : (t : Tree) → is-condition t ≡ true → (is-condition t || is-term t) ≡ true
+body-had t e = ap (λ (b : Bool). b || is-term t) e
+
+pub term-had : (t : Tree) → is-term t ≡ true → (is-condition t || is-term t) ≡ true
+term-had t e = go (is-condition t)
+  where
+    go : (b : Bool) → (b || is-term t) ≡ true
+    go true = refl
+    go false = e
+
 pub noted-body : {columns : List ℕ} {rows : List (List ℕ)} {k : ℕ} {f : Facts} → Noted columns rows → k < length (held columns) → is-condition (tree-of columns k) ≡ true
     → f ≡ facts-at rows k → meant f ≡ condition-known (condition-of columns k)
-noted-body {columns} {k = k} n l b e = read-right e (n .row k l (ap (λ (z : Bool). z || is-term (tree-of columns k)) b)) ∙ condition-is _ b
+noted-body n l b e = noted n l (body-had _ b) e ∙ condition-is _ b
 
 pub noted-term : {columns : List ℕ} {rows : List (List ℕ)} {k : ℕ} {f : Facts} → Noted columns rows → k < length (held columns) → is-term (tree-of columns k) ≡ true
     → f ≡ facts-at rows k → meant f ≡ term-known (term-of columns k)
-noted-term {columns} {k = k} n l b e = read-right e (n .row k l (ap (λ (z : Bool). is-condition (tree-of columns k) || z) b ∙ or-true (is-condition (tree-of columns k)))) ∙ term-is _ b
-  where
-    or-true : (b : Bool) → (b || true) ≡ true
-    or-true true = refl
-    or-true false = refl
+noted-term n l b e = noted n l (term-had _ b) e ∙ term-is _ b
 
 -- rows from a call on the last node
 pub all-noted : {columns : List ℕ} {before after : List (List ℕ)} {i : ℕ} → Formed columns → Gathered columns before after i → length (held columns) ≡ i + 1
@@ -83,6 +95,11 @@ under c e n = let d = down c e in (d .0, (d .1, n))
 pub under-body : {P : Type 0} {columns : List ℕ} {i : ℕ} {k t : ℕ} → Child columns i condition k → i ≡ t → P
     → (k < t) × (Has columns k × P × (is-condition (tree-of columns k) ≡ true))
 under-body c e n = let d = down c e in (d .0, (d .1, n, a-body _ (c .fits)))
+
+-- and of a term
+pub under-term : {P : Type 0} {columns : List ℕ} {i : ℕ} {k t : ℕ} → Child columns i term k → i ≡ t → P
+    → (k < t) × (Has columns k × P × (is-term (tree-of columns k) ≡ true))
+under-term c e n = let d = down c e in (d .0, (d .1, n, a-term _ (c .fits)))
 
 -- what a look at a child's row asks for
 module _ {P : Type 0} {columns : List ℕ} {i k : ℕ} where

@@ -1,64 +1,154 @@
--- What is known of a node: four facts of its tree in the paper's words, and how those of a node follow from those of its parts. Assumes nothing: these are
--- definitions.
+-- What is known of a node: facts of its tree, in the paper's words and in those of `Needs`, and how those of a node follow from those of its parts. Assumes nothing:
+-- these are definitions.
 use Prim.Native.Nat.{ℕ}
 use mathlib.Core.List as L
 use mathlib.Core.List.{[], _∷_}
-use mathlib.Core.Bool.{Bool, true, false, _||_, _&&_}
+use mathlib.Core.Bool.{Bool, true, false, not, _||_, _&&_}
 use Rattle.paper.specs.declared.NodeNo.{NodeNo}
 use Rattle.paper.specs.declared.Node.{Node}
 use Rattle.paper.specs.declared.Node.the-variants as node
-use Rattle.paper.specs.Sets.{Set, none, only, _∪_, _∖_}
-use Rattle.paper.specs.Tree.{Condition, Term, Arguments, Items, Tree, a-condition, a-term, arguments, items, binders, an-end, as-term, as-binders}
+use Rattle.paper.specs.declared.Slot.{Slot}
+use Rattle.paper.specs.declared.Tied.{Tied}
+use Rattle.paper.specs.Sets.{Set, none, only, _∪_, _∖_, outside}
+use Rattle.paper.specs.Tree.{Condition, Term, Arguments, Items, Binders, Tree, a-condition, a-term, arguments, items, binders, an-end, as-term, as-binders}
 use Rattle.paper.specs.Tree.Arguments.{no-argument, argument}
 use Rattle.paper.specs.Tree.Items.{no-item, item}
 use Rattle.paper.specs.FreeAndRestricted.{named, is-sigil, binder-names, free, term-free, bare, about, tied, tied-name, restricted, holds-sigil, term-sigil}
-use Rattle.known.specs.Plain.{plain, plain-argument}
+use Rattle.paper.specs.Scoping.{binder-sigil}
+use Rattle.known.specs.Needs.{slot-in, binder-in, has-some, owes, need, term-need, hard, term-hard, computed, broken, term-broken, binds, term-binds, unclosed, term-unclosed}
 use Rattle.known.specs.declared.Parts.{Parts}
 use Rattle.known.specs.declared.Parts.the-variants.{Leaf, One, Two, List, Then}
 
--- of a condition the names that it restricts; of terms the variables that they are
+-- of a condition the names that it restricts; of terms the variables that they are. What can be found below is that of a condition, and of a term where it is an operand.
 pub record Known : Type 0 where
   pub free : Set
   pub restricted : Set
+  pub need : Set
   pub sigil : Bool
-  pub plain : Bool
+  pub hard : Bool
+  pub broken : Bool
+  pub binds : Bool
+  pub unclosed : Bool
+  pub computed : Bool
 
 -- ---- how facts are put together
 
 unfoldable pub nothing : Known
-nothing = record { free = none; restricted = none; sigil = false; plain = true }
+nothing =
+    record { free = none; restricted = none; need = none; sigil = false; hard = false; broken = false; binds = false; unclosed = false; computed = false }
 
-unfoldable pub opaque : Known
-opaque = record { free = none; restricted = none; sigil = true; plain = false }
+unfoldable pub opaque : Bool → Known
+opaque computed =
+    record { free = none; restricted = none; need = none; sigil = true; hard = false; broken = false; binds = false; unclosed = false; computed = computed }
 
 -- names that are free and restricted
 unfoldable pub naming : Set → Bool → Bool → Known
-naming own sigil plain = record { free = own; restricted = own; sigil = sigil; plain = plain }
+naming own sigil binds =
+    record { free = own; restricted = own; need = none; sigil = sigil; hard = false; broken = false; binds = binds; unclosed = false; computed = false }
 
--- both, with what either restricts
+-- both, restricting and needing these names
+unfoldable pub both : Known → Known → Set → Set → Bool → Known
+both a b given needs computed =
+    record {
+      free = a .free ∪ b .free;
+      restricted = given;
+      need = needs;
+      sigil = a .sigil || b .sigil;
+      hard = a .hard || b .hard;
+      broken = a .broken || b .broken;
+      binds = a .binds || b .binds;
+      unclosed = a .unclosed || b .unclosed;
+      computed = computed;
+    }
+
+-- the terms of a list, one after the other
 unfoldable pub join : Known → Known → Known
-join a b =
-    record { free = a .free ∪ b .free; restricted = a .restricted ∪ b .restricted; sigil = a .sigil || b .sigil; plain = a .plain && b .plain }
+join a b = both a b (a .restricted ∪ b .restricted) (a .need ∪ b .need) (a .computed || b .computed)
 
--- both, restricting these names
-unfoldable pub apart : Known → Known → Set → Known
-apart a b given = record { free = a .free ∪ b .free; restricted = given; sigil = a .sigil || b .sigil; plain = false }
+-- what is searched and not entered, restricting these names
+unfoldable pub searched : Known → Set → Bool → Known
+searched a given computed =
+    record { free = a .free; restricted = given; need = none; sigil = a .sigil; hard = false; broken = a .computed; binds = false; unclosed = false; computed = computed }
 
--- under binders
-unfoldable pub bound : Known → Set → Known
-bound a own = record { free = a .free ∖ own; restricted = a .restricted ∖ own; sigil = a .sigil; plain = false }
-
--- under what restricts nothing
+-- what restricts nothing, and owes all that is free
 unfoldable pub loose : Known → Known
-loose a = record { free = a .free; restricted = none; sigil = a .sigil; plain = false }
+loose a =
+    record { free = a .free; restricted = none; need = a .need ∪ a .free; sigil = a .sigil; hard = a .hard; broken = a .broken; binds = a .binds; unclosed = a .unclosed; computed = a .computed }
+
+-- a condition with fields, which are neither entered nor searched
+unfoldable pub refined : Known → Known → Known
+refined a b =
+    record {
+      free = a .free ∪ b .free;
+      restricted = a .restricted ∪ b .restricted;
+      need = a .need;
+      sigil = a .sigil || b .sigil;
+      hard = a .hard;
+      broken = a .broken;
+      binds = a .binds;
+      unclosed = a .unclosed;
+      computed = a .computed;
+    }
+
+-- under an exists
+unfoldable pub bound : Known → Slot → Known
+bound a s =
+    record {
+      free = a .free ∖ named s;
+      restricted = a .restricted ∖ named s;
+      need = a .need ∖ named s;
+      sigil = a .sigil;
+      hard = a .hard || slot-in s (a .need);
+      broken = a .broken || (not (a .sigil) && slot-in s (outside (a .restricted)));
+      binds = true;
+      unclosed = a .unclosed;
+      computed = a .computed;
+    }
+
+-- an aggregate over a body: whether it is skipped, and whether it sums a name that no binder has
+unfoldable pub gathered : Known → Binders → Bool → Bool → Known
+gathered a l skipped unsummed =
+    record {
+      free = a .free ∖ binder-names l;
+      restricted = none;
+      need = a .need ∖ binder-names l;
+      sigil = a .sigil;
+      hard = a .hard || binder-in l (a .need);
+      broken = not skipped && (a .broken || (unsummed || binder-in l (outside (a .restricted))));
+      binds = not skipped;
+      unclosed = not skipped && (a .unclosed || has-some (a .free ∖ binder-names l));
+      computed = true;
+    }
 
 -- ---- of a tree
 
 unfoldable pub condition-known : Condition → Known
-condition-known c = record { free = free c; restricted = restricted c; sigil = holds-sigil c; plain = plain c }
+condition-known c =
+    record {
+      free = free c;
+      restricted = restricted c;
+      need = need c;
+      sigil = holds-sigil c;
+      hard = hard c;
+      broken = broken c;
+      binds = binds c;
+      unclosed = unclosed c;
+      computed = false;
+    }
 
 unfoldable pub term-known : Term → Known
-term-known t = record { free = term-free t; restricted = about (bare t); sigil = term-sigil t; plain = plain-argument t }
+term-known t =
+    record {
+      free = term-free t;
+      restricted = about (bare t);
+      need = term-need t;
+      sigil = term-sigil t;
+      hard = term-hard t;
+      broken = term-broken t;
+      binds = term-binds t;
+      unclosed = term-unclosed t;
+      computed = computed t;
+    }
 
 unfoldable pub arguments-known : Arguments → Known
 arguments-known (no-argument n) = nothing
@@ -117,6 +207,26 @@ nodes-of (Two l r) = l .0 ∷ r .0 ∷ []
 nodes-of (List l) = l .0 ∷ []
 nodes-of (Then b l) = b .0 ∷ l .0 ∷ []
 
+-- on the right of And what the left restricts is tied, and on the left of Since what the right does
+unfoldable pub and-known : Known → Known → Known
+and-known a b = both a b (a .restricted ∪ b .restricted) (a .need ∪ (b .need ∖ a .restricted)) false
+
+unfoldable pub since-known : Known → Known → Known
+since-known a b = both a b (b .restricted) (b .need ∪ ((a .need ∪ a .free) ∖ b .restricted)) false
+
+-- Or, and arithmetic, which is computed
+unfoldable pub or-known : Known → Known → Bool → Known
+or-known a b computed = both a b none (a .need ∪ b .need) computed
+
+unfoldable pub compared : Tied → Known → Known → Known
+compared side a b = both a b (tied-name side) (owes side (a .free) (b .free) ∪ (a .need ∪ b .need)) false
+
+-- how the facts of a node come from those of its parts
+pub data Way : Type 0 where
+  alone : Known → Way
+  over : (Known → Known) → Way
+  between : (Known → Known → Known) → Way
+
 -- where `t` gives the trees of the parts
 module _ (t : ℕ → Tree) where
   abbrev part : NodeNo → Known
@@ -125,33 +235,52 @@ module _ (t : ℕ → Tree) where
   abbrev term : NodeNo → Term
   term k = as-term (t (k .0))
 
+  abbrev list : NodeNo → Binders
+  list k = as-binders (t (k .0))
+
+  unfoldable pub way : Node → Way
+  way (node.And l r) = between and-known
+  way (node.Or l r) = between (λ a b. or-known a b false)
+  way (node.Not b) = over loose
+  way (node.Formerly b w) = over (λ a. a)
+  way (node.Previous b w) = over (λ a. a)
+  way (node.Since l r w) = between since-known
+  way (node.Exists s y b) = over (λ a. bound a s)
+  way (node.Comparison o l r) = between (compared (tied o (term l) (term r)))
+  way (node.Predicate a l) = over (λ a. searched a (a .restricted) false)
+  way (node.Refine b l) = between refined
+  way (node.Tp s) = alone (naming (named s) (is-sigil s) true)
+  way (node.Call y) = alone (opaque false)
+  way (node.SigilRef y) = alone (opaque false)
+  way (node.Var x) = alone (naming (only (x .0)) false false)
+  way node.Wildcard = alone nothing
+  way (node.Literal y) = alone nothing
+  way (node.ScopeField y) = alone nothing
+  way (node.ContextField y) = alone nothing
+  way (node.ParamRef k) = alone (opaque false)
+  way (node.BinderRef k) = alone (opaque false)
+  way (node.Array l) = over (λ a. searched a none (a .computed))
+  way (node.Arith o l r) = between (λ a b. or-known a b true)
+  way (node.Sum s l b) = over (λ a. gathered a (list l) (is-sigil s || binder-sigil (list l)) (slot-in s (outside (binder-names (list l)))))
+  way (node.Count l b) = over (λ a. gathered a (list l) (binder-sigil (list l)) false)
+  way (node.AggregateCall y) = alone (opaque true)
+  way node.ListEnd = alone nothing
+  way (node.ArgumentCell f x l) = between join
+  way (node.ItemCell x l) = between join
+  way (node.BinderCell s y l) = alone nothing
+
+  unfoldable pub from-parts : Way → Parts → Known
+  from-parts (alone k) p = k
+  from-parts (over f) Leaf = nothing
+  from-parts (over f) (One b) = f (part b)
+  from-parts (over f) (Two l r) = nothing
+  from-parts (over f) (List l) = f (part l)
+  from-parts (over f) (Then b l) = nothing
+  from-parts (between f) Leaf = nothing
+  from-parts (between f) (One b) = nothing
+  from-parts (between f) (Two l r) = f (part l) (part r)
+  from-parts (between f) (List l) = nothing
+  from-parts (between f) (Then b l) = f (part b) (part l)
+
   unfoldable pub own : Node → Known
-  own (node.And l r) = join (part l) (part r)
-  own (node.Or l r) = apart (part l) (part r) none
-  own (node.Not b) = loose (part b)
-  own (node.Formerly b w) = part b
-  own (node.Previous b w) = part b
-  own (node.Since l r w) = apart (part l) (part r) (part r .restricted)
-  own (node.Exists s y b) = bound (part b) (named s)
-  own (node.Comparison o l r) = apart (part l) (part r) (tied-name (tied o (term l) (term r)))
-  own (node.Predicate a l) = part l
-  own (node.Refine b l) = join (part b) (part l)
-  own (node.Tp s) = naming (named s) (is-sigil s) false
-  own (node.Call y) = opaque
-  own (node.SigilRef y) = opaque
-  own (node.Var x) = naming (only (x .0)) false true
-  own node.Wildcard = nothing
-  own (node.Literal y) = nothing
-  own (node.ScopeField y) = nothing
-  own (node.ContextField y) = nothing
-  own (node.ParamRef k) = opaque
-  own (node.BinderRef k) = opaque
-  own (node.Array l) = loose (part l)
-  own (node.Arith o l r) = apart (part l) (part r) none
-  own (node.Sum s l b) = loose (bound (part b) (binder-names (as-binders (t (l .0)))))
-  own (node.Count l b) = loose (bound (part b) (binder-names (as-binders (t (l .0)))))
-  own (node.AggregateCall y) = opaque
-  own node.ListEnd = nothing
-  own (node.ArgumentCell f x l) = join (part x) (part l)
-  own (node.ItemCell x l) = join (part x) (part l)
-  own (node.BinderCell s y l) = nothing
+  own m = from-parts (way m) (parts-of m)

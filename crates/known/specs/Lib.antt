@@ -1,4 +1,4 @@
 -- What is known of a node, from what is known of its parts; and rows that hold it.
-pub mod Plain
+pub mod Needs
 pub mod Known
 pub mod Rows

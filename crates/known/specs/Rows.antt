@@ -1,7 +1,7 @@
 -- When a row holds what is known of its node, when rows do for all nodes, and how they are changed. Assumes nothing: these are definitions.
 use mathlib.Core.Path.{_≡_}
 use mathlib.Core.List.{List, [], List·Memᴰ}
-use Prim.Native.Nat.{ℕ, _<_, _≤_}
+use Prim.Native.Nat.{ℕ, _/_, _%_, _<_, _≤_}
 use mathlib.Core.Bool.{Bool, true, _||_}
 use lib.Dec.{eqb}
 use lib.ListN.{length, getD, set}
@@ -18,17 +18,42 @@ use Rattle.known.specs.declared.Facts.{Facts}
 
 -- what facts in words say
 unfoldable pub meant : Facts → Known
-meant f = record { free = mem (f .free); restricted = mem (f .restricted); sigil = f .sigil; plain = f .plain }
+meant f =
+    record {
+      free = mem (f .free);
+      restricted = mem (f .restricted);
+      need = mem (f .need);
+      sigil = f .sigil;
+      hard = f .hard;
+      broken = f .broken;
+      binds = f .binds;
+      unclosed = f .unclosed;
+      computed = f .computed;
+    }
 
--- the facts in a row: two words for each set, and 1 for a sigil, 2 for a plain node, 3 for both
+-- the facts in a row: two words for each set, and a word whose lowest bits are the marks
 unfoldable pub facts-in : List ℕ → Facts
 facts-in row =
     record {
       free = record { lo = getD row 0 0; hi = getD row 1 0 };
       restricted = record { lo = getD row 2 0; hi = getD row 3 0 };
-      sigil = eqb (getD row 4 0) 1 || eqb (getD row 4 0) 3;
-      plain = eqb (getD row 4 0) 2 || eqb (getD row 4 0) 3;
+      need = record { lo = getD row 4 0; hi = getD row 5 0 };
+      sigil = eqb (getD row 6 0 % 2) 1;
+      hard = eqb (getD row 6 0 / 2 % 2) 1;
+      broken = eqb (getD row 6 0 / 4 % 2) 1;
+      binds = eqb (getD row 6 0 / 8 % 2) 1;
+      unclosed = eqb (getD row 6 0 / 16 % 2) 1;
+      computed = eqb (getD row 6 0 / 32 % 2) 1;
     }
+
+-- a word with the marks of these facts
+pub record Marks (f : Facts) (word : ℕ) : Type 0 where
+  pub sigil : eqb (word % 2) 1 ≡ f .sigil
+  pub hard : eqb (word / 2 % 2) 1 ≡ f .hard
+  pub broken : eqb (word / 4 % 2) 1 ≡ f .broken
+  pub binds : eqb (word / 8 % 2) 1 ≡ f .binds
+  pub unclosed : eqb (word / 16 % 2) 1 ≡ f .unclosed
+  pub computed : eqb (word / 32 % 2) 1 ≡ f .computed
 
 abbrev pub facts-at : List (List ℕ) → ℕ → Facts
 facts-at rows k = facts-in (getD rows k [])

@@ -5,8 +5,13 @@ use paper::NodeNo;
 pub struct Facts {
     pub free: Names,
     pub restricted: Names,
+    pub need: Names,
     pub sigil: bool,
-    pub plain: bool,
+    pub hard: bool,
+    pub broken: bool,
+    pub binds: bool,
+    pub unclosed: bool,
+    pub computed: bool,
 }
 
 // The nodes that a node's facts follow from: conditions and terms, and lists of terms.

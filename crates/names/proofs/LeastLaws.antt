@@ -39,7 +39,7 @@ least-below a (suc n) k h = go (a zero) refl k h (least-below (λ j. a (suc j)) 
     go false e (suc k) h f = f k (omega arith)
 
 -- it is in the set, if it is not the bound
-least-within : (a : Set) (n : ℕ) → least a n < n → a (least a n) ≡ true
+pub least-within : (a : Set) (n : ℕ) → least a n < n → a (least a n) ≡ true
 unfolding least
 least-within a zero h = absurd (omega arith)
 least-within a (suc n) h = go (a zero) refl h (least-within (λ k. a (suc k)) n)

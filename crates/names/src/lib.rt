@@ -5,6 +5,7 @@ ghost use Prim.Native.Nat.{_<_};
 ghost use Rattle.paper.specs.Sets.{none, only, _∪_, _∩_, _∖_, outside, all-below};
 ghost use Rattle.names.specs.Words.{bit, mem};
 ghost use Rattle.names.specs.Least.{least as least-of};
+ghost use Rattle.names.specs.Apart.{Apart};
 
 // Bit k of lo is name k, bit k of hi is name 64 + k.
 pub struct Names {
@@ -80,6 +81,22 @@ pub fn is_empty(s: Names) -> bool
     ensures { λ r. ⌜ r ≡ all-below 128 (outside (mem s)) ⌝ }
 {
     (s.lo == 0) & (s.hi == 0)
+}
+
+// Whether no name is in both.
+pub fn disjoint(a: Names, b: Names) -> bool
+    ensures { λ r. ⌜ Apart r (mem a) (mem b) ⌝ }
+{
+    let shared = common(a, b);
+    is_empty(shared)
+}
+
+// Whether every name of the one is in the other.
+pub fn within(a: Names, b: Names) -> bool
+    ensures { λ r. ⌜ Apart r (mem a) (outside (mem b)) ⌝ }
+{
+    let left = minus(a, b);
+    is_empty(left)
 }
 
 // The place of the lowest bit of a word, and 64 where it has none.

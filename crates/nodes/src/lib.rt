@@ -9,7 +9,7 @@ ghost use Prim.Native.Nat.{_/_, _%_};
 ghost use Rattle.paper.specs.Record.{slot-of, announced};
 ghost use Rattle.memory.specs.Columns.{node-said};
 
-fn lower(x: u16) -> u8
+pub fn lower(x: u16) -> u8
     ensures { λ r. ⌜ r ≡ x % 256 ⌝ }
 {
     (x % 256) as u8
@@ -32,7 +32,7 @@ fn slot_of(sort: u8, number: u8) -> Slot
 }
 
 // A slot's sort is the lower byte, its number the upper one.
-fn slot_in(x: u16) -> Slot
+pub fn slot_in(x: u16) -> Slot
     ensures { λ r. ⌜ r ≡ slot-of (x % 256) (x / 256) ⌝ }
 {
     let sort = lower(x);

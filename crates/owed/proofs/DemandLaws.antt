@@ -1,7 +1,7 @@
 -- What is demanded from a node on: by `found-at`, a condition's own entries if it is asked, and then what is found below, with what is tied there; for each
 -- kind from its parts. Assumes nothing.
 use mathlib.Core.Path.{_≡_, refl, sym, ap, ap₂, _∙_}
-use mathlib.Core.Bool.{Bool, true, false, true≢false}
+use mathlib.Core.Bool.{Bool, true, false}
 use mathlib.Core.List.{List, [], _∷_, _++_, append-nil}
 use Prim.Native.Nat.{ℕ}
 use types.Run.{OneOf, miss}
@@ -20,14 +20,15 @@ use Rattle.paper.specs.Sets.{Set, none, _∪_, _∖_}
 use Rattle.paper.specs.TurnedAway.{Contents}
 use Rattle.paper.specs.Tree.{Condition, Term, Tree, as-condition, as-term, planted, root}
 use Rattle.paper.specs.Tree.{Condition as cond}
-use Rattle.known.specs.Plain.{plain-arguments, plain}
-use Rattle.known.proofs.RowLaws.{both-true}
+use Rattle.known.specs.Needs.{met}
+use Rattle.known.specs.Known.{known-of}
+use Rattle.known.proofs.MetLaws.{met-body, met-term}
 use Rattle.paper.specs.FreeAndRestricted.{named, binder-names, free, term-free, restricted, tied, holds-sigil}
 use Rattle.paper.specs.Places.{Spot, condition, operand, Place, asked-at, for-names, gather, findings, found}
 use Rattle.paper.specs.Demands.{comparison-broken, demand-below, demand-broken, demands-part}
 use Rattle.paper.proofs.Walks.{found-at}
 use Rattle.paper.proofs.Exact.{extent-pos, demand-shrinks}
-use Rattle.trees.specs.Trees.{tree-of, condition-of, term-of, binders-of}
+use Rattle.trees.specs.Trees.{tree-of, condition-of, term-of, binders-of, is-condition, is-term}
 use Rattle.trees.proofs.Arms.{Arm}
 use Rattle.trees.proofs.Shapes.{Aggregate, sum, count}
 use Rattle.trees.proofs.ByKind.{condition-kinds, no-other, condition-cases, term-cases}
@@ -88,31 +89,18 @@ two : (s t : Spot) {left right first second : Set} → first ≡ left → second
 unfolding demanded gather
 two s t e d = ap₂ {C = List Finding} _++_ (ap (demanded true s) (sym e)) (one true t d)
 
-unowed : (asked : Bool) → pick {A = List Finding} asked [] [] ≡ []
-unowed true = refl
-unowed false = refl
-
 asked-so : (s : Spot) (names : Set) {asked so : Bool} → asked ≡ so → demanded so s names ≡ demanded asked s names
 asked-so s names e = ap (λ (b : Bool). demanded b s names) (sym e)
 
--- in a plain condition nothing is demanded, whether it is asked and whatever is tied
-pub plain-demanded : (asked : Bool) (c : Condition) (ties : Set) → plain c ≡ true → demanded asked (condition c) ties ≡ []
-unfolding plain owed below-it demand-below demand-broken gather
-plain-demanded asked (cond.And n l r) ties e =
-    own-first asked _ ties ∙ ap₂ {C = List Finding} _++_ (unowed asked) (two _ _ refl refl
-    ∙ ap₂ {C = List Finding} _++_ (plain-demanded true l _ (both-true (plain l) (plain r) e .0)) (plain-demanded true r _ (both-true (plain l) (plain r) e .1)))
-plain-demanded asked (cond.Or n l r) ties e = absurd (true≢false (sym e))
-plain-demanded asked (cond.Not n b) ties e = absurd (true≢false (sym e))
-plain-demanded asked (cond.Past n k b w) ties e =
-    own-first asked _ ties ∙ ap₂ {C = List Finding} _++_ (unowed asked) (one _ _ refl ∙ plain-demanded true b _ e)
-plain-demanded asked (cond.Since n l r w) ties e = absurd (true≢false (sym e))
-plain-demanded asked (cond.Exists n s y b) ties e = absurd (true≢false (sym e))
-plain-demanded asked (cond.Comparison n o l r) ties e = absurd (true≢false (sym e))
-plain-demanded asked (cond.Predicate n a l) ties e = own-first asked _ ties ∙ ap₂ {C = List Finding} _++_ (unowed asked) refl
-plain-demanded asked (cond.Refine n b l) ties e =
-    own-first asked _ ties ∙ ap₂ {C = List Finding} _++_ (unowed asked) (one _ _ refl ∙ plain-demanded false b _ (both-true (plain b) (plain-arguments l) e .0))
-plain-demanded asked (cond.Tp n s) ties e = absurd (true≢false (sym e))
-plain-demanded asked (cond.Opaque n k y) ties e = absurd (true≢false (sym e))
+-- where the test says so, nothing is demanded
+module _ (t : Tree) (ties : Set) where
+  pub met-demanded : (asked : Bool) → is-condition t ≡ true → met (known-of t .need) (known-of t .hard) ties ≡ true → demanded asked (condition (as-condition t)) ties ≡ []
+  unfolding demanded
+  met-demanded asked s e = met-body t ties asked s e
+
+  pub met-operand-demanded : is-term t ≡ true → met (known-of t .need) (known-of t .hard) ties ≡ true → demanded true (operand (as-term t)) ties ≡ []
+  unfolding demanded
+  met-operand-demanded s e = met-term t ties s e
 
 -- where the walk goes on below a condition: what is found there, with these names tied at the first place and at the second
 module _ (ties : Set) (columns : List ℕ) where

@@ -66,7 +66,7 @@ fn check_comparison_demands(
 // The entries of a condition itself: 30 to 32 for the names that are not tied.
 fn check_conjunct_demands(
     columns: &[u16; 2049],
-    rows: &[[u64; 5]],
+    rows: &[[u64; 7]],
     i: NodeNo,
     node: Node,
     tied: Names,
@@ -102,7 +102,7 @@ fn check_conjunct_demands(
 // The same, if the condition is asked.
 pub fn check_own_demands(
     columns: &[u16; 2049],
-    rows: &[[u64; 5]],
+    rows: &[[u64; 7]],
     i: NodeNo,
     node: Node,
     tied: Names,
@@ -124,7 +124,7 @@ pub fn check_own_demands(
 // What is tied at the first part of a condition: on the left of Since also what the right restricts, below a binder not its name.
 pub fn tied_first(
     columns: &[u16; 2049],
-    rows: &[[u64; 5]],
+    rows: &[[u64; 7]],
     i: NodeNo,
     node: Node,
     tied: Names,
@@ -146,7 +146,7 @@ pub fn tied_first(
 // What is tied at the second part: on the right of And also what the left restricts.
 pub fn tied_second(
     columns: &[u16; 2049],
-    rows: &[[u64; 5]],
+    rows: &[[u64; 7]],
     i: NodeNo,
     node: Node,
     tied: Names,

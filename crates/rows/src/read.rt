@@ -10,10 +10,11 @@ ghost use Rattle.names.specs.Words.{mem};
 ghost use Rattle.paper.specs.FreeAndRestricted.{free, term-free, restricted, holds-sigil};
 ghost use Rattle.record.specs.Stored.{held};
 ghost use Rattle.trees.specs.Trees.{tree-of, condition-of, term-of, is-condition, is-term};
-ghost use Rattle.known.specs.Plain.{plain};
-ghost use Rattle.known.specs.Rows.{Noted};
+ghost use Rattle.known.specs.Needs.{met, sound};
+ghost use Rattle.known.specs.Known.{known-of};
+ghost use Rattle.known.specs.Rows.{Noted, has-row};
 
-pub fn collect_free(columns: &[u16; 2049], rows: &[[u64; 5]], i: NodeNo) -> Names
+pub fn collect_free(columns: &[u16; 2049], rows: &[[u64; 7]], i: NodeNo) -> Names
     requires { ⌜ (i .0 < length (held (now columns))) × Noted (now columns) (now rows) × (is-condition (tree-of (now columns) (i .0)) ≡ true) ⌝ }
     ensures { λ r. ⌜ mem r ≡ free (condition-of (now (columns .entry)) (i .0)) ⌝ }
 {
@@ -21,7 +22,7 @@ pub fn collect_free(columns: &[u16; 2049], rows: &[[u64; 5]], i: NodeNo) -> Name
     f.free
 }
 
-pub fn collect_term_var(columns: &[u16; 2049], rows: &[[u64; 5]], i: NodeNo) -> Names
+pub fn collect_term_var(columns: &[u16; 2049], rows: &[[u64; 7]], i: NodeNo) -> Names
     requires { ⌜ (i .0 < length (held (now columns))) × Noted (now columns) (now rows) × (is-term (tree-of (now columns) (i .0)) ≡ true) ⌝ }
     ensures { λ r. ⌜ mem r ≡ term-free (term-of (now (columns .entry)) (i .0)) ⌝ }
 {
@@ -29,7 +30,7 @@ pub fn collect_term_var(columns: &[u16; 2049], rows: &[[u64; 5]], i: NodeNo) -> 
     f.free
 }
 
-pub fn collect_range_restricted(columns: &[u16; 2049], rows: &[[u64; 5]], i: NodeNo) -> Names
+pub fn collect_range_restricted(columns: &[u16; 2049], rows: &[[u64; 7]], i: NodeNo) -> Names
     requires { ⌜ (i .0 < length (held (now columns))) × Noted (now columns) (now rows) × (is-condition (tree-of (now columns) (i .0)) ≡ true) ⌝ }
     ensures { λ r. ⌜ mem r ≡ restricted (condition-of (now (columns .entry)) (i .0)) ⌝ }
 {
@@ -37,7 +38,7 @@ pub fn collect_range_restricted(columns: &[u16; 2049], rows: &[[u64; 5]], i: Nod
     f.restricted
 }
 
-pub fn body_has_sigil(columns: &[u16; 2049], rows: &[[u64; 5]], i: NodeNo) -> bool
+pub fn body_has_sigil(columns: &[u16; 2049], rows: &[[u64; 7]], i: NodeNo) -> bool
     requires { ⌜ (i .0 < length (held (now columns))) × Noted (now columns) (now rows) × (is-condition (tree-of (now columns) (i .0)) ≡ true) ⌝ }
     ensures { λ r. ⌜ r ≡ holds-sigil (condition-of (now (columns .entry)) (i .0)) ⌝ }
 {
@@ -45,11 +46,30 @@ pub fn body_has_sigil(columns: &[u16; 2049], rows: &[[u64; 5]], i: NodeNo) -> bo
     f.sigil
 }
 
-// In a plain condition no walk finds anything; nor does it in many that are not plain.
-pub fn is_plain(columns: &[u16; 2049], rows: &[[u64; 5]], i: NodeNo) -> bool
-    requires { ⌜ (i .0 < length (held (now columns))) × Noted (now columns) (now rows) × (is-condition (tree-of (now columns) (i .0)) ≡ true) ⌝ }
-    ensures { λ r. ⌜ r ≡ plain (condition-of (now (columns .entry)) (i .0)) ⌝ }
+// Whether no demand below is unmet, with these names tied. A walk goes no further then; it may say no where nothing is found.
+pub fn is_met(columns: &[u16; 2049], rows: &[[u64; 7]], i: NodeNo, tied: Names) -> bool
+    requires { ⌜ (i .0 < length (held (now columns))) × Noted (now columns) (now rows) × (has-row (now columns) (i .0) ≡ true) ⌝ }
+    ensures { λ r. ⌜ r ≡ met (known-of (tree-of (now (columns .entry)) (i .0)) .need) (known-of (tree-of (now (columns .entry)) (i .0)) .hard) (mem tied) ⌝ }
 {
     let f = facts_at(rows, i);
-    f.plain
+    let need = f.need;
+    let unmet = names::minus(need, tied);
+    !f.hard & names::is_empty(unmet)
+}
+
+// Whether no rule of scoping is broken below, with these words reserved and these names in scope.
+pub fn is_sound(
+    columns: &[u16; 2049],
+    rows: &[[u64; 7]],
+    i: NodeNo,
+    words: Names,
+    scope: Names,
+) -> bool
+    requires { ⌜ (i .0 < length (held (now columns))) × Noted (now columns) (now rows) × (has-row (now columns) (i .0) ≡ true) ⌝ }
+    ensures { λ r. ⌜ r ≡ sound (known-of (tree-of (now (columns .entry)) (i .0)) .broken) (known-of (tree-of (now (columns .entry)) (i .0)) .binds) (known-of (tree-of (now (columns .entry)) (i .0)) .unclosed) (known-of (tree-of (now (columns .entry)) (i .0)) .free) (mem words) (mem scope) ⌝ }
+{
+    let f = facts_at(rows, i);
+    let free = f.free;
+    let unknown = names::minus(free, scope);
+    !f.broken & ((!f.binds | names::is_empty(words)) & (!f.unclosed | names::is_empty(unknown)))
 }

@@ -1,15 +1,14 @@
-// Facts in the words of a row: two words for each set, and 1 for a sigil, 2 for a plain node, 3 for both.
+// Facts in the words of a row: two words for each set, and one for the marks.
 use known::Facts;
 use names::Names;
 use paper::NodeNo;
 ghost use mathlib.Core.Path.{_≡_};
-ghost use mathlib.Core.Bool.{_||_};
-ghost use Prim.Native.Nat.{_<_};
-ghost use lib.Dec.{eqb};
+ghost use Prim.Native.Nat.{_<_, _≤_};
 ghost use lib.ListN.{length};
-ghost use Rattle.known.specs.Rows.{facts-in, facts-at, Put};
+ghost use Rattle.paper.specs.Record.{pick};
+ghost use Rattle.known.specs.Rows.{facts-in, facts-at, Put, Marks};
 
-fn facts_in(row: [u64; 5]) -> Facts
+fn facts_in(row: [u64; 7]) -> Facts
     ensures { λ r. ⌜ r ≡ facts-in row ⌝ }
 {
     let free = Names {
@@ -20,15 +19,24 @@ fn facts_in(row: [u64; 5]) -> Facts
         lo: row[2],
         hi: row[3],
     };
+    let need = Names {
+        lo: row[4],
+        hi: row[5],
+    };
     Facts {
         free: free,
         restricted: restricted,
-        sigil: (row[4] == 1) | (row[4] == 3),
-        plain: (row[4] == 2) | (row[4] == 3),
+        need: need,
+        sigil: row[6] % 2 == 1,
+        hard: row[6] / 2 % 2 == 1,
+        broken: row[6] / 4 % 2 == 1,
+        binds: row[6] / 8 % 2 == 1,
+        unclosed: row[6] / 16 % 2 == 1,
+        computed: row[6] / 32 % 2 == 1,
     }
 }
 
-pub fn facts_at(rows: &[[u64; 5]], i: NodeNo) -> Facts
+pub fn facts_at(rows: &[[u64; 7]], i: NodeNo) -> Facts
     requires { ⌜ i .0 < length (now rows) ⌝ }
     ensures { λ r. ⌜ r ≡ facts-at (now (rows .entry)) (i .0) ⌝ }
 {
@@ -36,25 +44,43 @@ pub fn facts_at(rows: &[[u64; 5]], i: NodeNo) -> Facts
     facts_in(row)
 }
 
-fn marks(sigil: bool, plain: bool) -> u64
-    ensures { λ r. ⌜ ((eqb r 1 || eqb r 3) ≡ sigil) × ((eqb r 2 || eqb r 3) ≡ plain) ⌝ }
+fn mark(yes: bool) -> u64
+    ensures { λ r. ⌜ (r ≡ pick yes 1 0) × (r ≤ 1) ⌝ }
 {
-    if sigil {
-        return if plain { 3 } else { 1 };
-    }
-    if plain { 2 } else { 0 }
+    if yes { 1 } else { 0 }
 }
 
-fn in_words(f: Facts) -> [u64; 5]
+fn marks(f: Facts) -> u64
+    ensures { λ r. ⌜ Marks f r ⌝ }
+{
+    let sigil = mark(f.sigil);
+    let hard = mark(f.hard);
+    let broken = mark(f.broken);
+    let binds = mark(f.binds);
+    let unclosed = mark(f.unclosed);
+    let computed = mark(f.computed);
+    sigil + 2 * hard + 4 * broken + 8 * binds + 16 * unclosed + 32 * computed
+}
+
+fn in_words(f: Facts) -> [u64; 7]
     ensures { λ r. ⌜ facts-in r ≡ f ⌝ }
 {
     let free = f.free;
     let restricted = f.restricted;
-    let both = marks(f.sigil, f.plain);
-    [free.lo, free.hi, restricted.lo, restricted.hi, both]
+    let need = f.need;
+    let all = marks(f);
+    [
+        free.lo,
+        free.hi,
+        restricted.lo,
+        restricted.hi,
+        need.lo,
+        need.hi,
+        all,
+    ]
 }
 
-pub fn put_facts(rows: &mut [[u64; 5]], i: NodeNo, f: Facts)
+pub fn put_facts(rows: &mut [[u64; 7]], i: NodeNo, f: Facts)
     requires { ⌜ i .0 < length (now rows) ⌝ }
     ensures { λ r. ⌜ Put (now (rows .entry)) (i .0) f (now (rows .exit)) ⌝ }
 {

@@ -1,6 +1,6 @@
 -- What `check_condition` and `check_operand` find at a node: by `found-at`, what is broken there and then what is found below. Assumes nothing.
 use mathlib.Core.Path.{_≡_, refl, sym, ap, ap₂, _∙_, subst}
-use mathlib.Core.Bool.{true, false, true≢false}
+use mathlib.Core.Bool.{Bool, true, false, true≢false}
 use mathlib.Core.List.{List, [], _∷_, _++_, append-nil}
 use Prim.Native.Nat.{ℕ}
 use types.Run.{OneOf, miss}
@@ -18,18 +18,20 @@ use Rattle.paper.specs.Tree.{Condition as cond}
 use Rattle.paper.specs.Tree.Term.{Var, Wildcard, Value, Sigil, Array, Arith, Sum, Count, AggregateCall}
 use Rattle.paper.specs.Tree.Arguments.{no-argument, argument}
 use Rattle.paper.specs.Tree.Items.{no-item, item}
-use Rattle.paper.specs.FreeAndRestricted.{named, binder-names}
+use Rattle.paper.specs.FreeAndRestricted.{named, binder-names, term-free}
 use Rattle.paper.specs.Places.{Spot, condition, operand, searched, searched-arguments, searched-items, asked-at, itself, gather, findings, found}
 use Rattle.paper.specs.Scoping.{scope-below, scope-broken}
 use Rattle.paper.proofs.Walks.{found-at}
 use Rattle.paper.proofs.Exact.{extent-pos, scope-shrinks}
-use Rattle.trees.specs.Trees.{tree-of, condition-of, term-of, binders-of}
+use Rattle.trees.specs.Trees.{tree-of, condition-of, term-of, binders-of, is-condition, is-term}
 use Rattle.trees.proofs.Arms.{Arm}
 use Rattle.trees.proofs.Sorts.{at-items}
 use Rattle.trees.proofs.Shapes.{Aggregate, sum, count}
 use Rattle.trees.proofs.ByKind.{term-cases}
-use Rattle.known.specs.Plain.{plain-argument, plain-arguments, plain}
-use Rattle.known.proofs.RowLaws.{both-true}
+use Rattle.known.specs.Needs.{has-none, term-broken, term-binds, term-unclosed, sound}
+use Rattle.known.specs.Known.{Known, term-known, known-of}
+use Rattle.known.proofs.KnownLaws.{term-is}
+use Rattle.known.proofs.SoundLaws.{Tells, sound-body, sound-term}
 use Rattle.places.specs.Nested.{nested, nested-arguments, nested-items, nested-in}
 use Rattle.places.proofs.NestedLaws.{no-item-nested}
 use Rattle.cells.specs.Aggregates.{skips, five, five-of}
@@ -53,22 +55,39 @@ unentered-kinds = 0 ∷ 1 ∷ 2 ∷ 3 ∷ 4 ∷ 5 ∷ 6 ∷ 7 ∷ 8 ∷ 9 ∷ 10
 once : (a : List Finding) → (a ++ []) ++ [] ≡ a
 once a = append-nil (a ++ []) ∙ append-nil a
 
-plain-term-nested : (t : Term) → plain-argument t ≡ true → nested t ≡ []
-unfolding plain-argument nested
-plain-term-nested (Var n x) e = refl
-plain-term-nested (Wildcard n) e = refl
-plain-term-nested (Value n k y) e = refl
-plain-term-nested (Sigil n k i) e = refl
-plain-term-nested (Array n l) e = absurd (true≢false (sym e))
-plain-term-nested (Arith n o l r) e = absurd (true≢false (sym e))
-plain-term-nested (Sum n s l b) e = absurd (true≢false (sym e))
-plain-term-nested (Count n l b) e = absurd (true≢false (sym e))
-plain-term-nested (AggregateCall n y) e = absurd (true≢false (sym e))
+-- where the test says so, nothing is found
+module _ (words : Set) (past : (k : ℕ) → has-none words ≡ true → words k ≡ false) (t : Tree) (scope : Set) where
+  pub sound-scoped : is-condition t ≡ true → Tells words past (known-of t) scope → scoped words (condition (as-condition t)) scope ≡ []
+  unfolding scoped
+  sound-scoped s e = sound-body words past t scope s e
 
-plain-nested : (l : Arguments) → plain-arguments l ≡ true → nested-arguments l ≡ []
-unfolding plain-arguments nested
-plain-nested (no-argument n) e = refl
-plain-nested (argument n f t l) e = ap₂ {C = List Finding} _++_ (plain-term-nested t (both-true (plain-argument t) (plain-arguments l) e .0)) (plain-nested l (both-true (plain-argument t) (plain-arguments l) e .1))
+  pub sound-operand-scoped : is-term t ≡ true → Tells words past (known-of t) scope → scoped words (operand (as-term t)) scope ≡ []
+  unfolding scoped
+  sound-operand-scoped s e = sound-term words past t scope s e
+
+-- and where it does not, an aggregate is not skipped
+skipped-sound : (t : Term) → skips t ≡ true → (free words scope : Set) → sound (term-broken t) (term-binds t) (term-unclosed t) free words scope ≡ true
+unfolding skips sound term-broken term-binds term-unclosed
+skipped-sound (Var n x) e free words scope = absurd (true≢false (sym e))
+skipped-sound (Wildcard n) e free words scope = absurd (true≢false (sym e))
+skipped-sound (Value n k y) e free words scope = absurd (true≢false (sym e))
+skipped-sound (Sigil n k i) e free words scope = absurd (true≢false (sym e))
+skipped-sound (Array n l) e free words scope = absurd (true≢false (sym e))
+skipped-sound (Arith n o l r) e free words scope = absurd (true≢false (sym e))
+skipped-sound (Sum n s l b) e free words scope = rw e
+skipped-sound (Count n l b) e free words scope = rw e
+skipped-sound (AggregateCall n y) e free words scope = absurd (true≢false (sym e))
+
+pub not-skipped : (t : Tree) (words scope : Set) → is-term t ≡ true
+    → sound (known-of t .broken) (known-of t .binds) (known-of t .unclosed) (known-of t .free) words scope ≡ false → skips (as-term t) ≡ false
+unfolding term-known
+not-skipped t words scope s e = go (skips (as-term t)) refl
+  where
+    go : (b : Bool) → skips (as-term t) ≡ b → b ≡ false
+    go false d = refl
+    go true d =
+        absurd (true≢false (sym (skipped-sound (as-term t) d (term-free (as-term t)) words scope)
+        ∙ ap (λ (k : Known). sound (k .broken) (k .binds) (k .unclosed) (k .free) words scope) (sym (term-is t s)) ∙ e))
 
 module _ (words scope : Set) where
   abbrev from : Spot → List Finding
@@ -108,22 +127,6 @@ module _ (words scope : Set) where
     items-searched (item n t l) =
         at (searched-items (item n t l)) ∙ then-one (from (searched t)) (from (searched-items l))
         ∙ ap₂ {C = List Finding} _++_ (term-searched t) (items-searched l)
-
-  -- ---- in a plain condition nothing is found
-
-  pub plain-scoped : (c : Condition) → plain c ≡ true → from (condition c) ≡ []
-  unfolding scope-below scope-broken gather scoped plain
-  plain-scoped (cond.And n l r) e = at _ ∙ then-one (from (condition l)) (from (condition r)) ∙ ap₂ {C = List Finding} _++_ (plain-scoped l (both-true (plain l) (plain r) e .0)) (plain-scoped r (both-true (plain l) (plain r) e .1))
-  plain-scoped (cond.Or n l r) e = absurd (true≢false (sym e))
-  plain-scoped (cond.Not n b) e = absurd (true≢false (sym e))
-  plain-scoped (cond.Past n k b w) e = at _ ∙ append-nil _ ∙ plain-scoped b e
-  plain-scoped (cond.Since n l r w) e = absurd (true≢false (sym e))
-  plain-scoped (cond.Exists n s y b) e = absurd (true≢false (sym e))
-  plain-scoped (cond.Comparison n o l r) e = absurd (true≢false (sym e))
-  plain-scoped (cond.Predicate n a l) e = at (condition (cond.Predicate n a l)) ∙ append-nil (from (searched-arguments l)) ∙ arguments-searched l ∙ plain-nested l e
-  plain-scoped (cond.Refine n b l) e = at _ ∙ append-nil _ ∙ plain-scoped b (both-true (plain b) (plain-arguments l) e .0)
-  plain-scoped (cond.Tp n s) e = absurd (true≢false (sym e))
-  plain-scoped (cond.Opaque n k y) e = absurd (true≢false (sym e))
 
   -- ---- conditions
 
@@ -193,18 +196,6 @@ module _ (words scope : Set) where
         ∙ sym (at-items nested nested-arguments nested-items [] no-item-nested _ (a .children .0 .fits))
 
   -- ---- aggregates
-
-  pub scoped-skipped : (t : Term) → skips t ≡ true → from (operand t) ≡ []
-  unfolding scope-below scope-broken gather scoped skips
-  scoped-skipped (Var n x) e = absurd (true≢false (sym e))
-  scoped-skipped (Wildcard n) e = absurd (true≢false (sym e))
-  scoped-skipped (Value n k y) e = absurd (true≢false (sym e))
-  scoped-skipped (Sigil n k i) e = absurd (true≢false (sym e))
-  scoped-skipped (Array n l) e = absurd (true≢false (sym e))
-  scoped-skipped (Arith n o l r) e = absurd (true≢false (sym e))
-  scoped-skipped (Sum n s l b) e = at (operand (Sum n s l b)) ∙ rw e
-  scoped-skipped (Count n l b) e = at (operand (Count n l b)) ∙ rw e
-  scoped-skipped (AggregateCall n y) e = absurd (true≢false (sym e))
 
   entered-sum : (n : NodeNo) (s : Slot) (l : Binders) (b : Condition) → skips (Sum n s l b) ≡ false
       → from (operand (Sum n s l b)) ≡ gather findings (five-of words (Sum n s l b) scope) ++ scoped words (condition b) (scope ∪ binder-names l)

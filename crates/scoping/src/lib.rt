@@ -1,6 +1,5 @@
 // Scoping: 20 to 27.
 use aggregates::check_agg_expr;
-use cells::is_skipped;
 use names::Names;
 use paper::Node;
 use paper::NodeNo;
@@ -10,7 +9,7 @@ use places::itself::check_itself;
 use places::itself::scope_first;
 use places::nested::reject_nested_agg;
 use record::access::node_at;
-use rows::read::is_plain;
+use rows::read::is_sound;
 use slots::with_binders;
 ghost use mathlib.Core.Path.{_≡_};
 ghost use mathlib.Core.Bool.{true};
@@ -18,14 +17,14 @@ ghost use Rattle.paper.specs.Places.{condition, operand};
 ghost use Rattle.names.specs.Words.{mem};
 ghost use Rattle.record.specs.Stored.{Has};
 ghost use Rattle.known.specs.Rows.{Noted};
-ghost use Rattle.trees.specs.Trees.{tree-of, is-condition, condition-of, term-of};
+ghost use Rattle.trees.specs.Trees.{tree-of, is-condition, is-term, condition-of, term-of};
 ghost use Rattle.writes.specs.Written.{Room, Wrote};
 ghost use Rattle.scoping.specs.Scoped.{scoped};
 
-// The entries of a condition and of what lies below it, with these names in scope and these reserved.
+// The entries of a condition and of what lies below it, with these names in scope and these reserved. Where there are none, nothing is entered.
 pub fn check_condition(
     columns: &[u16; 2049],
-    rows: &[[u64; 5]],
+    rows: &[[u64; 7]],
     i: NodeNo,
     scope: Names,
     words: Names,
@@ -36,7 +35,7 @@ pub fn check_condition(
     requires { ⌜ Room (scoped (mem words) (condition (condition-of (now columns) (i .0))) (mem scope)) at ⌝ }
     ensures { λ r. ⌜ Wrote (scoped (mem words) (condition (condition-of (now (columns .entry)) (i .0))) (mem scope)) at r (now (out .entry)) (now (out .exit)) ⌝ }
 {
-    if is_plain(columns, rows, i) {
+    if is_sound(columns, rows, i, words, scope) {
         return at;
     }
     let node = node_at(columns, i);
@@ -59,20 +58,23 @@ pub fn check_condition(
     }
 }
 
-// The same of an operand of a comparison, through arithmetic to aggregates.
+// The same of an operand of a comparison, through arithmetic to aggregates. One that is skipped has none.
 pub fn check_operand(
     columns: &[u16; 2049],
-    rows: &[[u64; 5]],
+    rows: &[[u64; 7]],
     i: NodeNo,
     scope: Names,
     words: Names,
     out: &mut [u32],
     at: usize,
 ) -> usize
-    requires { ⌜ Has (now columns) (i .0) × Noted (now columns) (now rows) ⌝ }
+    requires { ⌜ Has (now columns) (i .0) × Noted (now columns) (now rows) × (is-term (tree-of (now columns) (i .0)) ≡ true) ⌝ }
     requires { ⌜ Room (scoped (mem words) (operand (term-of (now columns) (i .0))) (mem scope)) at ⌝ }
     ensures { λ r. ⌜ Wrote (scoped (mem words) (operand (term-of (now (columns .entry)) (i .0))) (mem scope)) at r (now (out .entry)) (now (out .exit)) ⌝ }
 {
+    if is_sound(columns, rows, i, words, scope) {
+        return at;
+    }
     let node = node_at(columns, i);
     match node {
         Node::Arith(_, l, r) => {
@@ -80,9 +82,6 @@ pub fn check_operand(
             check_operand(columns, rows, r, scope, words, out, p)
         }
         Node::Sum(_, binders, body) | Node::Count(binders, body) => {
-            if is_skipped(columns, i) {
-                return at;
-            }
             let p = check_agg_expr(columns, rows, i, scope, words, out, at);
             let inner = with_binders(columns, scope, binders);
             check_condition(columns, rows, body, inner, words, out, p)

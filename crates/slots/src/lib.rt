@@ -7,6 +7,7 @@ use record::access::node_at;
 ghost use mathlib.Core.Path.{_≡_};
 ghost use Rattle.paper.specs.Sets.{_∪_, _∖_};
 ghost use Rattle.paper.specs.FreeAndRestricted.{named, is-sigil, binder-names};
+ghost use Rattle.paper.specs.Scoping.{binder-sigil};
 ghost use Rattle.names.specs.Words.{mem};
 ghost use Rattle.record.specs.Stored.{Has};
 ghost use Rattle.trees.specs.Trees.{binders-of};
@@ -48,6 +49,18 @@ pub fn without_slot(others: Names, slot: Slot) -> Names
 {
     let name = slot_name(slot);
     names::minus(others, name)
+}
+
+// Whether a binder of an aggregate's list is a sigil.
+pub fn has_sigil_binder(columns: &[u16; 2049], i: NodeNo) -> bool
+    requires { ⌜ Has (now columns) (i .0) ⌝ }
+    ensures { λ r. ⌜ r ≡ binder-sigil (binders-of (now (columns .entry)) (i .0)) ⌝ }
+{
+    let node = node_at(columns, i);
+    match node {
+        Node::BinderCell(slot, _, rest) => is_sigil(slot) || has_sigil_binder(columns, rest),
+        _ => false,
+    }
 }
 
 // The named binders of an aggregate's list.

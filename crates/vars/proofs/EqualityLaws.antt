@@ -30,7 +30,7 @@ use Rattle.trees.specs.Trees.{tree-of, term-of, in-terms}
 use Rattle.trees.proofs.Arms.{Arm, arm}
 use Rattle.trees.proofs.ByKind.{term-kinds, no-other, term-cases, in-terms-cases}
 use Rattle.trees.proofs.Joins.{JoinsTerms}
-use Rattle.trees.specs.Terms.{arguments-wildcard, wildcard-in}
+use Rattle.trees.specs.Terms.{arguments-wildcard, wildcard-in, TabledTied}
 
 -- ---- wildcards
 
@@ -161,13 +161,18 @@ unfolding tied-name
 tied-to-name left = refl
 tied-to-name right = refl
 
-pub tied-tabled : {columns : List ℕ} {i j : ℕ} → Has columns i → Has columns j → {x : NameNo} {z : Tied} → TiedTo x z → (o : ℕ)
+tied-tabled : {columns : List ℕ} {i j : ℕ} → Has columns i → Has columns j → {x : NameNo} {z : Tied} → TiedTo x z → (o : ℕ)
     → z ≡ tied o (term-of columns i) (term-of columns j) → x .0 < 128
 tied-tabled {columns} {i} {j} h k {x} {z} d o e = go d (subst (λ (y : Tied). OfSide y (bare (term-of columns i)) (bare (term-of columns j))) (sym e) (tied-bare o _ _))
   where
     go : {z : Tied} → TiedTo x z → OfSide z (bare (term-of columns i)) (bare (term-of columns j)) → x .0 < 128
     go left e = bare-tabled h e
     go right e = bare-tabled k e
+
+pub tied-within : {columns : List ℕ} {i j : ℕ} → Has columns i → Has columns j → (z : Tied) (o : ℕ) → z ≡ tied o (term-of columns i) (term-of columns j) → TabledTied z
+tied-within h k (Left x) o e = tied-tabled h k left o e
+tied-within h k (Right x) o e = tied-tabled h k right o e
+tied-within h k Neither o e = tt
 
 -- ---- the other kinds
 

@@ -81,14 +81,3 @@ pub fn eq_restricted_var(columns: &[u16; 2049], op: u8, l: NodeNo, r: NodeNo) ->
         },
     }
 }
-
-// The name that a comparison ties.
-pub fn tied_var(columns: &[u16; 2049], op: u8, l: NodeNo, r: NodeNo) -> Names
-    requires { ⌜ Has (now columns) (l .0) × Has (now columns) (r .0) ⌝ }
-    ensures { λ s. ⌜ mem s ≡ tied-name (tied op (term-of (now (columns .entry)) (l .0)) (term-of (now (columns .entry)) (r .0))) ⌝ }
-{
-    match eq_restricted_var(columns, op, l, r) {
-        Tied::Left(x) | Tied::Right(x) => names::single(x),
-        Tied::Neither => names::empty(),
-    }
-}

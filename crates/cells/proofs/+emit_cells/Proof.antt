@@ -11,7 +11,8 @@ use Rattle.paper.specs.Places.{Cell, at-cells, findings}
 use Rattle.paper.specs.Scoping.{cells}
 use Rattle.trees.proofs.Arms.{Arm, arm, down}
 use Rattle.writes.proofs.WriteLaws.{wrote-none, wrote-then, wrote-is, room-is, room-first, room-rest}
-use Rattle.cells.proofs.AggregateLaws.{in-cells, next-cell, cells-append, no-cell, cells-end, no-entry-at-no-cell}
+use Rattle.cells.proofs.AggregateLaws.{next-cell, cells-append, cells-end, no-entry-at-no-cell}
+use Rattle.slots.proofs.SlotLaws.{in-cells, no-cell}
 use Prim.Native.Nat.{ℕ, _<_}
 use borrow.Fn.Kinds.{In}
 use borrow.Fn.PlainCycle.{Measures, is, falls, and}

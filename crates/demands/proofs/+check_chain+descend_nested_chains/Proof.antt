@@ -11,14 +11,14 @@ use Rattle.paper.specs.declared.Node.the-variants as node
 use Rattle.names.specs.Words.{mem}
 use Rattle.trees.specs.Trees.{condition-of}
 use Rattle.trees.proofs.Arms.{Arm, arm}
-use Rattle.known.proofs.RowLaws.{under, under-body}
+use Rattle.known.proofs.RowLaws.{under-body, under-term, body-had, term-had}
 use Rattle.trees.proofs.Shapes.{Aggregate, sum, count, of-aggregate, met₂}
 use Rattle.parts.specs.declared.Below.{Below}
 use Rattle.parts.specs.Entered.{entered-below}
 use Rattle.parts.proofs.EnteredLaws.{entered}
 use Rattle.writes.specs.Written.{Room}
 use Rattle.writes.proofs.WriteLaws.{wrote-none, wrote-then, wrote-is, room-is, room-first, room-rest}
-use Rattle.owed.proofs.DemandLaws.{plain-demanded, below-it, wrote-own-first, room-own, room-below, below-entered, first-is-asked, operand-arith, operand-aggregate, operand-none}
+use Rattle.owed.proofs.DemandLaws.{met-demanded, met-operand-demanded, below-it, wrote-own-first, room-own, room-below, below-entered, first-is-asked, operand-arith, operand-aggregate, operand-none}
 use Prim.Native.Nat.{ℕ, _<_}
 use borrow.Fn.Kinds.{In}
 use borrow.Fn.PlainCycle.{Measures, is, falls, and}
@@ -29,7 +29,7 @@ use Rattle.owed.proofs.check_own_demands.Reads as check-own-demands-reads
 use Rattle.owed.proofs.tied_first.Reads as tied-first-reads
 use Rattle.owed.proofs.tied_second.Reads as tied-second-reads
 use Rattle.parts.proofs.entered_below.Reads as entered-below-reads
-use Rattle.rows.proofs.read.is_plain.Reads as is-plain-reads
+use Rattle.rows.proofs.read.is_met.Reads as is-met-reads
 use Rattle.slots.proofs.without_binders.Reads as without-binders-reads
 use Rattle.record.proofs.access.node_at.Reads as node-at-reads
 use Rattle.demands.proofs.check_chain.Kinds as check-chain-kinds
@@ -59,8 +59,8 @@ operand-below t = and 3 descend-nested-chains-kinds.ps (falls 3 descend-nested-c
 
 abbrev chain-claims : ℕ → check-chain-lts.Claims
 chain-claims t = (
-  is-plain-reads.Asked,
-  is-plain-reads.Learnt,
+  is-met-reads.Asked,
+  is-met-reads.Learnt,
   node-at-reads.Asked,
   node-at-reads.Learnt,
   check-own-demands-reads.Asked,
@@ -81,6 +81,8 @@ chain-claims t = (
 
 abbrev operand-claims : ℕ → descend-nested-chains-lts.Claims
 operand-claims t = (
+  is-met-reads.Asked,
+  is-met-reads.Learnt,
   node-at-reads.Asked,
   node-at-reads.Learnt,
   operand-below t,
@@ -96,8 +98,8 @@ chain-arm : (t : ℕ) (c : check-chain-lts.After-node-at (chain-claims t) (chain
 chain-arm t c p = arm _ _ _ _ (c .before .before .before .before .pre .1 .0 .0) (c .node-at .ensures) p
 
 operand-arm : (t : ℕ) (c : descend-nested-chains-lts.After-node-at (operand-claims t) (operand-at t) descend-nested-chains.Post) {m : Node} → c .node-at .result ≡ m
-    → Arm (now (c .before .before .args .columns)) (c .before .before .args .i .0) m
-operand-arm t c p = arm _ _ _ _ (c .before .before .pre .1 .0 .0) (c .node-at .ensures) p
+    → Arm (now (c .before .before .before .before .args .columns)) (c .before .before .before .before .args .i .0) m
+operand-arm t c p = arm _ _ _ _ (c .before .before .before .before .pre .1 .0 .0) (c .node-at .ensures) p
 
 -- where the walk goes on: the node, what it is said to be, and the room after the condition's own entries
 module _ (t : ℕ) (c : check-chain-lts.After-entered-below (chain-claims t) (chain-at t) check-chain.Post) where
@@ -117,9 +119,9 @@ aggregate t c =
     (λ w. met₂ Aggregate node.Count (λ l b. count) (w .1 .given .1) (w .3) (w .4))
     (c .match .came)
 
-plain-writes : (t : ℕ) → check-chain-lts.Need-returns (chain-claims t) (chain-at t) check-chain.Post
-plain-writes t c =
-    wrote-is (plain-demanded _ _ _ (sym (c .before .is-plain .ensures) ∙ c .if1 .taken)) wrote-none
+met-writes : (t : ℕ) → check-chain-lts.Need-returns (chain-claims t) (chain-at t) check-chain.Post
+met-writes t c =
+    wrote-is (met-demanded _ _ _ (c .before .before .before .pre .1 .0 .2) (sym (c .before .is-met .ensures) ∙ c .if1 .taken)) wrote-none
 
 nothing-writes : (t : ℕ) → check-chain-lts.Need-returns-2 (chain-claims t) (chain-at t) check-chain.Post
 nothing-writes t c =
@@ -143,17 +145,21 @@ operands-writes t c =
     (wrote-is (below-entered _ (here t (c .before .before .before .before .before .before .before .before .before .before .before)) (told t (c .before .before .before .before .before .before .before .before .before .before .before) (c .before .before .before .before .before .before .before .before .before .below3 .given .1)) refl refl refl)
     (wrote-then (c .before .before .before .before .before .before .descend-nested-chains .ensures) (c .before .before .descend-nested-chains2 .ensures)))
 
-arith-writes : (t : ℕ) → descend-nested-chains-lts.Need-returns (operand-claims t) (operand-at t) descend-nested-chains.Post
+met-operand-writes : (t : ℕ) → descend-nested-chains-lts.Need-returns (operand-claims t) (operand-at t) descend-nested-chains.Post
+met-operand-writes t c =
+    wrote-is (met-operand-demanded _ _ (c .before .before .before .pre .1 .0 .2) (sym (c .before .is-met .ensures) ∙ c .if1 .taken)) wrote-none
+
+arith-writes : (t : ℕ) → descend-nested-chains-lts.Need-returns-2 (operand-claims t) (operand-at t) descend-nested-chains.Post
 arith-writes t c =
     let a = operand-arm t (c .before .before .before .before .before .before .before .before .before .before .before) (c .before .before .before .before .before .before .before .before .before .node .given .1) in
     wrote-is (operand-arith _ a) (wrote-then (c .before .before .before .before .before .before .descend-nested-chains .ensures) (c .before .before .descend-nested-chains2 .ensures))
 
-other-operand-writes : (t : ℕ) → descend-nested-chains-lts.Need-returns-2 (operand-claims t) (operand-at t) descend-nested-chains.Post
+other-operand-writes : (t : ℕ) → descend-nested-chains-lts.Need-returns-3 (operand-claims t) (operand-at t) descend-nested-chains.Post
 other-operand-writes t c =
     let a = operand-arm t (c .before) refl in
     wrote-is (operand-none _ a (c .match .keys4)) wrote-none
 
-aggregate-writes : (t : ℕ) → descend-nested-chains-lts.Need-returns-3 (operand-claims t) (operand-at t) descend-nested-chains.Post
+aggregate-writes : (t : ℕ) → descend-nested-chains-lts.Need-returns-4 (operand-claims t) (operand-at t) descend-nested-chains.Post
 aggregate-writes t c =
     let a = operand-arm t (c .before .before .before .before .before .before) refl in
     wrote-is (operand-aggregate _ (aggregate t (c .before .before .before .before .before)) a (c .before .before .before .before .without-binders .ensures)) (c .before .before .check-chain .ensures)
@@ -162,8 +168,8 @@ pub +check-chain+descend-nested-chains-spec : {M : Type 1} → statement M
 +check-chain+descend-nested-chains-spec =
     close μ-chain μ-operand
     (λ t. check-chain-lts.spec (chain-claims t) (chain-at t) check-chain.Post
-    (λ c κs. let s = c .before .pre .1 .0 in (s .0 .1, s .1, s .2))
-    (plain-writes t)
+    (λ c κs. let s = c .before .pre .1 .0 in (s .0 .1, s .1, body-had _ (s .2)))
+    (met-writes t)
     (λ c κs. c .before .before .before .pre .1 .0 .0)
     (λ c κs. let s = c .before .before .before .before .before .pre .1 in ((s .0 .0, s .0 .1), (c .before .node-at .ensures, room-own _ _ _ (s .1))))
     (λ c κs. search needs)
@@ -178,8 +184,8 @@ pub +check-chain+descend-nested-chains-spec : {M : Type 1} → statement M
     (λ c κs. let s = c .before .before .before .before .before .before .before .before .before .before .before .before .before .before .before in let d = under-body (entered (told t (c .before .before .before .before .before .before) (c .before .before .before .before .below2 .given .1)) (here t (c .before .before .before .before .before .before)) .0) (s .pre .0) (s .pre .1 .0 .1) in (d .0, (d .1, room-first _ _ (room-is (below-entered _ (here t (c .before .before .before .before .before .before)) (told t (c .before .before .before .before .before .before) (c .before .before .before .before .below2 .given .1)) (c .before .before .tied-first2 .ensures) (c .before .tied-second .ensures) refl) (room t (c .before .before .before .before .before .before))))))
     (λ c κs. let s = c .before .before .before .before .before .before .before .before .before .before .before .before .before .before .before .before .before .before .before in let d = under-body (entered (told t (c .before .before .before .before .before .before .before .before .before .before) (c .before .before .before .before .before .before .before .before .below2 .given .1)) (here t (c .before .before .before .before .before .before .before .before .before .before)) .1) (s .pre .0) (s .pre .1 .0 .1) in let w = c .before .before .before .check-chain2 .ensures in (d .0, (d .1, room-rest _ _ w (le-refl _) (room-is (below-entered _ (here t (c .before .before .before .before .before .before .before .before .before .before)) (told t (c .before .before .before .before .before .before .before .before .before .before) (c .before .before .before .before .before .before .before .before .below2 .given .1)) (c .before .before .before .before .before .before .tied-first2 .ensures) (c .before .before .before .before .before .tied-second .ensures) refl) (room t (c .before .before .before .before .before .before .before .before .before .before))))))
     (λ c. search needs)
-    (λ c κs. let s = c .before .before .before .before .before .before .before .before .before .before .before .before .before in let d = under (entered (told t (c .before .before .before .before) (c .before .before .below3 .given .1)) (here t (c .before .before .before .before)) .0) (s .pre .0) (s .pre .1 .0 .1) in (d .0, (d .1, room-first _ _ (room-is (below-entered _ (here t (c .before .before .before .before)) (told t (c .before .before .before .before) (c .before .before .below3 .given .1)) refl refl refl) (room t (c .before .before .before .before))))))
-    (λ c κs. let s = c .before .before .before .before .before .before .before .before .before .before .before .before .before .before .before .before .before in let d = under (entered (told t (c .before .before .before .before .before .before .before .before) (c .before .before .before .before .before .before .below3 .given .1)) (here t (c .before .before .before .before .before .before .before .before)) .1) (s .pre .0) (s .pre .1 .0 .1) in let w = c .before .before .before .descend-nested-chains .ensures in (d .0, (d .1, room-rest _ _ w (le-refl _) (room-is (below-entered _ (here t (c .before .before .before .before .before .before .before .before)) (told t (c .before .before .before .before .before .before .before .before) (c .before .before .before .before .before .before .below3 .given .1)) refl refl refl) (room t (c .before .before .before .before .before .before .before .before))))))
+    (λ c κs. let s = c .before .before .before .before .before .before .before .before .before .before .before .before .before in let d = under-term (entered (told t (c .before .before .before .before) (c .before .before .below3 .given .1)) (here t (c .before .before .before .before)) .0) (s .pre .0) (s .pre .1 .0 .1) in (d .0, (d .1, room-first _ _ (room-is (below-entered _ (here t (c .before .before .before .before)) (told t (c .before .before .before .before) (c .before .before .below3 .given .1)) refl refl refl) (room t (c .before .before .before .before))))))
+    (λ c κs. let s = c .before .before .before .before .before .before .before .before .before .before .before .before .before .before .before .before .before in let d = under-term (entered (told t (c .before .before .before .before .before .before .before .before) (c .before .before .before .before .before .before .below3 .given .1)) (here t (c .before .before .before .before .before .before .before .before)) .1) (s .pre .0) (s .pre .1 .0 .1) in let w = c .before .before .before .descend-nested-chains .ensures in (d .0, (d .1, room-rest _ _ w (le-refl _) (room-is (below-entered _ (here t (c .before .before .before .before .before .before .before .before)) (told t (c .before .before .before .before .before .before .before .before) (c .before .before .before .before .before .before .below3 .given .1)) refl refl refl) (room t (c .before .before .before .before .before .before .before .before))))))
     (λ c. search needs)
     (nothing-writes t)
     (λ c. search needs)
@@ -189,31 +195,33 @@ pub +check-chain+descend-nested-chains-spec : {M : Type 1} → statement M
     (λ c. search needs)
     (operands-writes t))
     (λ t. descend-nested-chains-lts.spec (operand-claims t) (operand-at t) descend-nested-chains.Post
-    (λ c κs. c .before .pre .1 .0 .0)
+    (λ c κs. let s = c .before .pre .1 .0 in (s .0 .1, s .1, term-had _ (s .2)))
+    (met-operand-writes t)
+    (λ c κs. c .before .before .before .pre .1 .0 .0)
     (λ c. search needs)
-    (λ c κs. let a = operand-arm t (c .before .before .before .before) (c .before .before .node .given .1) in let d = under (a .children .0) (c .before .before .before .before .before .before .pre .0) (c .before .before .before .before .before .before .pre .1 .0 .1) in (
+    (λ c κs. let a = operand-arm t (c .before .before .before .before) (c .before .before .node .given .1) in let d = under-term (a .children .0) (c .before .before .before .before .before .before .before .before .pre .0) (c .before .before .before .before .before .before .before .before .pre .1 .0 .1) in (
       d .0,
       (
         d .1,
-        room-first _ _ (room-is (operand-arith _ a) (c .before .before .before .before .before .before .pre .1 .1)),
+        room-first _ _ (room-is (operand-arith _ a) (c .before .before .before .before .before .before .before .before .pre .1 .1)),
       ),
     ))
-    (λ c κs. let a = operand-arm t (c .before .before .before .before .before .before .before .before) (c .before .before .before .before .before .before .node .given .1) in let d = under (a .children .1 .0) (c .before .before .before .before .before .before .before .before .before .before .pre .0) (c .before .before .before .before .before .before .before .before .before .before .pre .1 .0 .1) in (
+    (λ c κs. let a = operand-arm t (c .before .before .before .before .before .before .before .before) (c .before .before .before .before .before .before .node .given .1) in let d = under-term (a .children .1 .0) (c .before .before .before .before .before .before .before .before .before .before .before .before .pre .0) (c .before .before .before .before .before .before .before .before .before .before .before .before .pre .1 .0 .1) in (
       d .0,
       (
         d .1,
         room-rest _ _ (c .before .before .before .descend-nested-chains .ensures) (omega (arith, c .before .before .before .descend-nested-chains .ensures .total))
-            (room-is (operand-arith _ a) (c .before .before .before .before .before .before .before .before .before .before .pre .1 .1)),
+            (room-is (operand-arith _ a) (c .before .before .before .before .before .before .before .before .before .before .before .before .pre .1 .1)),
       ),
     ))
     (λ c. search needs)
     (λ c. search needs)
     (λ c κs. of-aggregate (aggregate t (c)) (operand-arm t (c .before) refl) .0 .has)
-    (λ c κs. let a = operand-arm t (c .before .before .before) refl in let d = under-body (of-aggregate (aggregate t (c .before .before)) a .1) (c .before .before .before .before .before .pre .0) (c .before .before .before .before .before .pre .1 .0 .1) in (
+    (λ c κs. let a = operand-arm t (c .before .before .before) refl in let d = under-body (of-aggregate (aggregate t (c .before .before)) a .1) (c .before .before .before .before .before .before .before .pre .0) (c .before .before .before .before .before .before .before .pre .1 .0 .1) in (
       d .0,
       (
         d .1,
-        room-is (operand-aggregate _ (aggregate t (c .before .before)) a (c .before .without-binders .ensures)) (c .before .before .before .before .before .pre .1 .1),
+        room-is (operand-aggregate _ (aggregate t (c .before .before)) a (c .before .without-binders .ensures)) (c .before .before .before .before .before .before .before .pre .1 .1),
       ),
     ))
     (λ c. search needs)

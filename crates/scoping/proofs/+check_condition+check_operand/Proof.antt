@@ -1,6 +1,7 @@
 -- `check_condition` and `check_operand` write the entries of 20 to 27. The measure is the node's number. For each function: the shapes that its arms take
 -- together, then its needs in the order of the code, first what the calls ask and then what each arm returns.
 use mathlib.Core.Path.{_≡_, refl, sym, _∙_}
+use mathlib.Core.Bool.{false}
 use mathlib.Core.Logic.{⊎-elim}
 use denote.Ref.{now}
 use native.Mathlib.Omega.{arith}
@@ -9,14 +10,19 @@ use borrow.Author.Needs.{needs}
 use Rattle.paper.specs.declared.Node.{Node}
 use Rattle.paper.specs.declared.Node.the-variants as node
 use Rattle.trees.proofs.Arms.{Arm, arm}
-use Rattle.known.proofs.RowLaws.{under, under-body}
+use Rattle.names.specs.Words.{mem}
+use Rattle.names.proofs.ApartLaws.{empty-everywhere}
+use Rattle.trees.specs.Trees.{term-of}
+use Rattle.known.proofs.RowLaws.{under-body, under-term, body-had, term-had}
+use Rattle.known.specs.Needs.{has-none}
+use Rattle.cells.specs.Aggregates.{skips}
 use Rattle.trees.proofs.Shapes.{Aggregate, sum, count, of-aggregate, met₂}
 use Rattle.parts.specs.declared.Below.{Below}
 use Rattle.parts.specs.Entered.{entered-below}
 use Rattle.parts.proofs.EnteredLaws.{entered}
 use Rattle.writes.proofs.WriteLaws.{wrote-none, wrote-then, wrote-is, room-is, room-first, room-rest}
 use Rattle.places.proofs.ItselfLaws.{first-in-scope}
-use Rattle.scoping.proofs.ScopingLaws.{plain-scoped, scoped-entered, scoped-arith, scoped-array, scoped-skipped, scoped-aggregate, operand-none}
+use Rattle.scoping.proofs.ScopingLaws.{sound-scoped, sound-operand-scoped, not-skipped, scoped-entered, scoped-arith, scoped-array, scoped-aggregate, operand-none}
 use Prim.Native.Nat.{ℕ, _<_}
 use borrow.Fn.Kinds.{In}
 use borrow.Fn.PlainCycle.{Measures, is, falls, and}
@@ -28,13 +34,12 @@ use Rattle.scoping.proofs.check_operand.Kinds as check-operand-kinds
 use Rattle.scoping.proofs.+check_condition+check_operand.Lts-check_operand as check-operand-lts
 use Rattle.slots.proofs.with_binders.Reads as with-binders-reads
 use Rattle.aggregates.proofs.check_agg_expr.Reads as check-agg-expr-reads
-use Rattle.cells.proofs.is_skipped.Reads as is-skipped-reads
 use Rattle.parts.proofs.entered_below.Reads as entered-below-reads
 use Rattle.places.proofs.itself.check_itself.Reads as check-itself-reads
 use Rattle.places.proofs.itself.scope_first.Reads as scope-first-reads
 use Rattle.places.proofs.nested.reject_nested_agg.Reads as reject-nested-agg-reads
 use Rattle.record.proofs.access.node_at.Reads as node-at-reads
-use Rattle.rows.proofs.read.is_plain.Reads as is-plain-reads
+use Rattle.rows.proofs.read.is_sound.Reads as is-sound-reads
 use Rattle.scoping.proofs.+check_condition+check_operand.{statement}
 use Rattle.scoping.proofs.+check_condition+check_operand.Tie.{close}
 
@@ -58,8 +63,8 @@ operand-below t = and 3 check-operand-kinds.ps (falls 3 check-operand-kinds.ps _
 
 abbrev condition-claims : ℕ → check-condition-lts.Claims
 condition-claims t = (
-  is-plain-reads.Asked,
-  is-plain-reads.Learnt,
+  is-sound-reads.Asked,
+  is-sound-reads.Learnt,
   node-at-reads.Asked,
   node-at-reads.Learnt,
   check-itself-reads.Asked,
@@ -76,14 +81,14 @@ condition-claims t = (
 
 abbrev operand-claims : ℕ → check-operand-lts.Claims
 operand-claims t = (
+  is-sound-reads.Asked,
+  is-sound-reads.Learnt,
   node-at-reads.Asked,
   node-at-reads.Learnt,
   operand-below t,
   check-operand.Post,
   reject-nested-agg-reads.Asked,
   reject-nested-agg-reads.Learnt,
-  is-skipped-reads.Asked,
-  is-skipped-reads.Learnt,
   check-agg-expr-reads.Asked,
   check-agg-expr-reads.Learnt,
   with-binders-reads.Asked,
@@ -97,8 +102,8 @@ condition-arm : (t : ℕ) (c : check-condition-lts.After-node-at (condition-clai
 condition-arm t c p = arm _ _ _ _ (c .before .before .before .before .pre .1 .0 .0) (c .node-at .ensures) p
 
 operand-arm : (t : ℕ) (c : check-operand-lts.After-node-at (operand-claims t) (operand-at t) check-operand.Post) {m : Node} → c .node-at .result ≡ m
-    → Arm (now (c .before .before .args .columns)) (c .before .before .args .i .0) m
-operand-arm t c p = arm _ _ _ _ (c .before .before .pre .1 .0 .0) (c .node-at .ensures) p
+    → Arm (now (c .before .before .before .before .args .columns)) (c .before .before .before .before .args .i .0) m
+operand-arm t c p = arm _ _ _ _ (c .before .before .before .before .pre .1 .0 .0) (c .node-at .ensures) p
 
 -- where the walk goes on: the node, and what it is said to be
 module _ (t : ℕ) (c : check-condition-lts.After-entered-below (condition-claims t) (condition-at t) check-condition.Post) where
@@ -134,9 +139,24 @@ operands-writes t c =
     wrote-is (scoped-entered _ _ (here t (c .before .before .before .before .before .before .before .before .before .before .before)) (told t (c .before .before .before .before .before .before .before .before .before .before .before) (c .before .before .before .before .before .before .before .before .before .below3 .given .1)) refl)
     (wrote-then (c .before .before .before .before .before .before .before .before .before .before .before .before .before .before .check-itself .ensures) (wrote-then (c .before .before .before .before .before .before .check-operand .ensures) (c .before .before .check-operand2 .ensures)))
 
+-- nothing is entered
+sound-writes : (t : ℕ) → check-condition-lts.Need-returns (condition-claims t) (condition-at t) check-condition.Post
+unfolding has-none
+sound-writes t c =
+    let s = c .before .before .before in
+    wrote-is (sound-scoped _ (λ k e. empty-everywhere (s .args .words) (search needs) e k) _ _ (s .pre .1 .0 .2) (sym (c .before .is-sound .ensures) ∙ c .if1 .taken)) wrote-none
+
 operand-returns : (t : ℕ) → check-operand-lts.Need-returns (operand-claims t) (operand-at t) check-operand.Post
+unfolding has-none
 operand-returns t c =
-    wrote-is (scoped-skipped _ _ _ (sym (c .before .is-skipped .ensures) ∙ c .if1 .taken)) wrote-none
+    let s = c .before .before .before in
+    wrote-is (sound-operand-scoped _ (λ k e. empty-everywhere (s .args .words) (search needs) e k) _ _ (s .pre .1 .0 .2) (sym (c .before .is-sound .ensures) ∙ c .if1 .taken)) wrote-none
+
+-- an aggregate that is entered
+enters : (t : ℕ) (c : check-operand-lts.After-node-at (operand-claims t) (operand-at t) check-operand.Post) → let s = c .before .before .before .before .args in skips (term-of (now (s .columns)) (s .i .0)) ≡ false
+enters t c =
+    let s = c .before .before .before .before in
+    not-skipped _ (mem (s .args .words)) (mem (s .args .scope)) (s .pre .1 .0 .2) (sym (c .before .before .is-sound .ensures) ∙ c .before .if1 .left)
 
 operand-returns-2 : (t : ℕ) → check-operand-lts.Need-returns-2 (operand-claims t) (operand-at t) check-operand.Post
 operand-returns-2 t c =
@@ -153,14 +173,17 @@ operand-returns-4 t c =
 
 operand-returns-5 : (t : ℕ) → check-operand-lts.Need-returns-5 (operand-claims t) (operand-at t) check-operand.Post
 operand-returns-5 t c =
-    wrote-is (scoped-aggregate _ _ (gathers t (c .before .before .before .before .before .before .before .before .before .before .before)) (c .before .before .before .before .with-binders .ensures) (operand-arm t (c .before .before .before .before .before .before .before .before .before .before .before .before) refl) (sym (c .before .before .before .before .before .before .before .before .before .before .is-skipped .ensures) ∙ c .before .before .before .before .before .before .before .before .before .if1 .left)) (wrote-then (c .before .before .before .before .before .before .before .check-agg-expr .ensures) (c .before .before .check-condition .ensures))
+    let agg = c .before .before .before .before .before .before .before in
+    let m = agg .before .before in
+    wrote-is (scoped-aggregate _ _ (gathers t m) (c .before .before .before .before .with-binders .ensures) (operand-arm t (m .before) refl) (enters t (m .before)))
+    (wrote-then (agg .check-agg-expr .ensures) (c .before .before .check-condition .ensures))
 
 pub +check-condition+check-operand-spec : {M : Type 1} → statement M
 +check-condition+check-operand-spec =
     close μ-condition μ-operand
     (λ t. check-condition-lts.spec (condition-claims t) (condition-at t) check-condition.Post
-    (λ c κs. let s = c .before .pre .1 .0 in (s .0 .1, s .1, s .2))
-    (λ c. wrote-is (plain-scoped _ _ _ (sym (c .before .is-plain .ensures) ∙ c .if1 .taken)) wrote-none)
+    (λ c κs. let s = c .before .pre .1 .0 in (s .0 .1, s .1, body-had _ (s .2)))
+    (sound-writes t)
     (λ c κs. c .before .before .before .pre .1 .0 .0)
     (λ c κs. let s = c .before .before .before .before .before .pre .1 in ((s .0 .0, s .0 .1), (c .before .node-at .ensures, room-first _ _ (room-is (scoped-entered _ _ (condition-arm t (c .before) refl) refl refl) (s .1)))))
     (λ c κs. search needs)
@@ -172,8 +195,8 @@ pub +check-condition+check-operand-spec : {M : Type 1} → statement M
     (λ c κs. let s = c .before .before .before .before .before .before .before .before .before .before .before .before .before in let d = under-body (entered (told t (c .before .before .before .before) (c .before .before .below2 .given .1)) (here t (c .before .before .before .before)) .0) (s .pre .0) (s .pre .1 .0 .1) in (d .0, (d .1, room-first _ _ (room-rest _ _ (c .before .before .before .before .before .before .before .check-itself .ensures) (le-refl _) (room-is (scoped-entered _ _ (here t (c .before .before .before .before)) (told t (c .before .before .before .before) (c .before .before .below2 .given .1)) refl) (s .pre .1 .1))))))
     (λ c κs. let s = c .before .before .before .before .before .before .before .before .before .before .before .before .before .before .before .before .before in let d = under-body (entered (told t (c .before .before .before .before .before .before .before .before) (c .before .before .before .before .before .before .below2 .given .1)) (here t (c .before .before .before .before .before .before .before .before)) .1) (s .pre .0) (s .pre .1 .0 .1) in (d .0, (d .1, room-rest _ _ (c .before .before .before .check-condition2 .ensures) (le-refl _) (room-rest _ _ (c .before .before .before .before .before .before .before .before .before .before .before .check-itself .ensures) (le-refl _) (room-is (scoped-entered _ _ (here t (c .before .before .before .before .before .before .before .before)) (told t (c .before .before .before .before .before .before .before .before) (c .before .before .before .before .before .before .below2 .given .1)) refl) (s .pre .1 .1))))))
     (λ c. search needs)
-    (λ c κs. let s = c .before .before .before .before .before .before .before .before .before .before .before .before .before in let d = under (entered (told t (c .before .before .before .before) (c .before .before .below3 .given .1)) (here t (c .before .before .before .before)) .0) (s .pre .0) (s .pre .1 .0 .1) in (d .0, (d .1, room-first _ _ (room-rest _ _ (c .before .before .before .before .before .before .before .check-itself .ensures) (le-refl _) (room-is (scoped-entered _ _ (here t (c .before .before .before .before)) (told t (c .before .before .before .before) (c .before .before .below3 .given .1)) refl) (s .pre .1 .1))))))
-    (λ c κs. let s = c .before .before .before .before .before .before .before .before .before .before .before .before .before .before .before .before .before in let d = under (entered (told t (c .before .before .before .before .before .before .before .before) (c .before .before .before .before .before .before .below3 .given .1)) (here t (c .before .before .before .before .before .before .before .before)) .1) (s .pre .0) (s .pre .1 .0 .1) in (d .0, (d .1, room-rest _ _ (c .before .before .before .check-operand .ensures) (le-refl _) (room-rest _ _ (c .before .before .before .before .before .before .before .before .before .before .before .check-itself .ensures) (le-refl _) (room-is (scoped-entered _ _ (here t (c .before .before .before .before .before .before .before .before)) (told t (c .before .before .before .before .before .before .before .before) (c .before .before .before .before .before .before .below3 .given .1)) refl) (s .pre .1 .1))))))
+    (λ c κs. let s = c .before .before .before .before .before .before .before .before .before .before .before .before .before in let d = under-term (entered (told t (c .before .before .before .before) (c .before .before .below3 .given .1)) (here t (c .before .before .before .before)) .0) (s .pre .0) (s .pre .1 .0 .1) in (d .0, (d .1, room-first _ _ (room-rest _ _ (c .before .before .before .before .before .before .before .check-itself .ensures) (le-refl _) (room-is (scoped-entered _ _ (here t (c .before .before .before .before)) (told t (c .before .before .before .before) (c .before .before .below3 .given .1)) refl) (s .pre .1 .1))))))
+    (λ c κs. let s = c .before .before .before .before .before .before .before .before .before .before .before .before .before .before .before .before .before in let d = under-term (entered (told t (c .before .before .before .before .before .before .before .before) (c .before .before .before .before .before .before .below3 .given .1)) (here t (c .before .before .before .before .before .before .before .before)) .1) (s .pre .0) (s .pre .1 .0 .1) in (d .0, (d .1, room-rest _ _ (c .before .before .before .check-operand .ensures) (le-refl _) (room-rest _ _ (c .before .before .before .before .before .before .before .before .before .before .before .check-itself .ensures) (le-refl _) (room-is (scoped-entered _ _ (here t (c .before .before .before .before .before .before .before .before)) (told t (c .before .before .before .before .before .before .before .before) (c .before .before .before .before .before .before .below3 .given .1)) refl) (s .pre .1 .1))))))
     (λ c. search needs)
     (nothing-writes t)
     (λ c. search needs)
@@ -183,21 +206,23 @@ pub +check-condition+check-operand-spec : {M : Type 1} → statement M
     (λ c. search needs)
     (operands-writes t))
     (λ t. check-operand-lts.spec (operand-claims t) (operand-at t) check-operand.Post
-    (λ c κs. c .before .pre .1 .0 .0)
+    (λ c κs. let s = c .before .pre .1 .0 in (s .0 .1, s .1, term-had _ (s .2)))
+    (operand-returns t)
+    (λ c κs. c .before .before .before .pre .1 .0 .0)
     (λ c. search needs)
-    (λ c κs. let a = operand-arm t (c .before .before .before .before) (c .before .before .node .given .1) in let d = under (a .children .0) (c .before .before .before .before .before .before .pre .0) (c .before .before .before .before .before .before .pre .1 .0 .1) in (
+    (λ c κs. let a = operand-arm t (c .before .before .before .before) (c .before .before .node .given .1) in let d = under-term (a .children .0) (c .before .before .before .before .before .before .before .before .pre .0) (c .before .before .before .before .before .before .before .before .pre .1 .0 .1) in (
       d .0,
       (
         d .1,
-        room-first _ _ (room-is (scoped-arith _ _ a) (c .before .before .before .before .before .before .pre .1 .1)),
+        room-first _ _ (room-is (scoped-arith _ _ a) (c .before .before .before .before .before .before .before .before .pre .1 .1)),
       ),
     ))
-    (λ c κs. let a = operand-arm t (c .before .before .before .before .before .before .before .before) (c .before .before .before .before .before .before .node .given .1) in let d = under (a .children .1 .0) (c .before .before .before .before .before .before .before .before .before .before .pre .0) (c .before .before .before .before .before .before .before .before .before .before .pre .1 .0 .1) in (
+    (λ c κs. let a = operand-arm t (c .before .before .before .before .before .before .before .before) (c .before .before .before .before .before .before .node .given .1) in let d = under-term (a .children .1 .0) (c .before .before .before .before .before .before .before .before .before .before .before .before .pre .0) (c .before .before .before .before .before .before .before .before .before .before .before .before .pre .1 .0 .1) in (
       d .0,
       (
         d .1,
         room-rest _ _ (c .before .before .before .check-operand .ensures) (omega (arith, c .before .before .before .check-operand .ensures .total)) (room-is
-            (scoped-arith _ _ a) (c .before .before .before .before .before .before .before .before .before .before .pre .1 .1)),
+            (scoped-arith _ _ a) (c .before .before .before .before .before .before .before .before .before .before .before .before .pre .1 .1)),
       ),
     ))
     (λ c. search needs)
@@ -205,18 +230,16 @@ pub +check-condition+check-operand-spec : {M : Type 1} → statement M
     (λ c. search needs)
     (λ c κs. let a = operand-arm t (c .before .before .before .before) (c .before .before .node4 .given .1) in (
       a .children .0 .has,
-      room-is (scoped-array _ _ a) (c .before .before .before .before .before .before .pre .1 .1),
+      room-is (scoped-array _ _ a) (c .before .before .before .before .before .before .before .before .pre .1 .1),
     ))
-    (λ c κs. c .before .before .before .pre .1 .0 .0)
-    (operand-returns t)
-    (λ c κs. (
-      (c .before .before .before .before .before .before .pre .1 .0 .0, c .before .before .before .before .before .before .pre .1 .0 .1),
-      room-first _ _ (room-is (scoped-aggregate _ _ (gathers t (c .before .before .before)) refl (operand-arm t (c .before .before .before .before) refl) (sym (c .before .before .is-skipped .ensures) ∙ c .before .if1 .left)) (c .before .before .before .before .before .before .pre .1 .1)),
+    (λ c κs. let s = c .before .before .before .before .before .before in
+    (
+      (s .pre .1 .0 .0, s .pre .1 .0 .1),
+      room-first _ _ (room-is (scoped-aggregate _ _ (gathers t (c .before)) refl (operand-arm t (c .before .before) refl) (enters t (c .before .before))) (s .pre .1 .1)),
     ))
-    (λ c κs. of-aggregate (gathers t (c .before .before .before .before .before .before)) (operand-arm t (c .before .before .before .before .before .before .before)
-    refl) .0 .has)
-    (λ c κs. let s = c .before .before .before .before .before .before .before .before .before .before .before in let g = gathers t (c .before .before .before .before .before .before .before .before) in let a = operand-arm t (c .before .before .before .before .before .before .before .before .before) refl in let d = under-body (of-aggregate g a .1) (s .pre .0) (s .pre .1 .0 .1) in
-    (d .0, (d .1, room-rest _ _ (c .before .before .before .before .check-agg-expr .ensures) (le-refl _) (room-is (scoped-aggregate _ _ g (c .before .with-binders .ensures) a (sym (c .before .before .before .before .before .before .before .is-skipped .ensures) ∙ c .before .before .before .before .before .before .if1 .left)) (s .pre .1 .1)))))
+    (λ c κs. of-aggregate (gathers t (c .before .before .before .before)) (operand-arm t (c .before .before .before .before .before) refl) .0 .has)
+    (λ c κs. let s = c .before .before .before .before .before .before .before .before .before .before .before in let m = c .before .before .before .before .before .before in let g = gathers t m in let a = operand-arm t (m .before) refl in let d = under-body (of-aggregate g a .1) (s .pre .0) (s .pre .1 .0 .1) in
+    (d .0, (d .1, room-rest _ _ (c .before .before .before .before .check-agg-expr .ensures) (le-refl _) (room-is (scoped-aggregate _ _ g (c .before .with-binders .ensures) a (enters t (m .before))) (s .pre .1 .1)))))
     (λ c. search needs)
     (operand-returns-2 t)
     (λ c. search needs)

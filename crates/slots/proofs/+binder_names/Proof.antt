@@ -6,7 +6,8 @@ use denote.Ref.{now}
 use borrow.Author.Needs.{needs}
 use Rattle.paper.specs.declared.Node.{Node}
 use Rattle.trees.proofs.Arms.{Arm, arm, down}
-use Rattle.slots.proofs.SlotLaws.{slot-tabled, in-binders, binders-cell, no-binders}
+use Rattle.paper.specs.FreeAndRestricted.{binder-names}
+use Rattle.slots.proofs.SlotLaws.{slot-tabled, in-cells, binders-cell, no-cell, binders-end}
 use borrow.Fn.Kinds.{In}
 use borrow.Fn.PlainCycle.{Measures, is, falls, and}
 use Rattle.slots.proofs.binder_names.Reads as binder-names
@@ -47,4 +48,4 @@ pub +binder-names-spec : {M : Type 1} → statement M
     (λ c κs. search needs)
     (λ c κs. search needs)
     (λ c. c .union .ensures ∙ ap₂ _∪_ (c .before .before .slot-name .ensures) (c .before .binder-names .ensures) ∙ sym (binders-cell (cells-arm t (c .before .before .before .before .before .before) (c .before .before .before .before .node .given .1))))
-    (λ c. c .empty .ensures ∙ sym (in-binders (cells-arm t (c .before .before) refl) ∙ no-binders _ _ _ (c .before .match .keys2))))
+    (λ c. c .empty .ensures ∙ sym (in-cells binder-names (cells-arm t (c .before .before) refl) ∙ no-cell binder-names _ binders-end _ _ _ (c .before .match .keys2))))

@@ -1,5 +1,5 @@
--- `naming` has the names twice.
-use mathlib.Core.Path.{refl}
+-- `naming` has the names twice. Assumes nothing.
+use borrow.Author.Needs.{needs}
 use Rattle.known.specs.Known.{naming}
 use Rattle.known.specs.Rows.{meant}
 use Rattle.together.proofs.naming.Statement.{statement}
@@ -7,7 +7,7 @@ use Rattle.together.proofs.naming.Tie as tie
 
 returns : tie.Need-returns
 unfolding meant naming
-returns c = refl
+returns c = rw (c .empty .ensures)
 
 pub naming-spec : {M : Type 1} → statement M
-naming-spec = tie.close (tie.spec returns)
+naming-spec = tie.close (tie.spec (λ c κs. tt) returns)

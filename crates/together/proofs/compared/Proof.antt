@@ -1,0 +1,14 @@
+-- `compared` restricts the name that is tied and owes the other side. Assumes nothing.
+use mathlib.Core.Path.{_∙_}
+use borrow.Author.Needs.{needs}
+use Rattle.known.specs.Known.{compared}
+use Rattle.known.specs.Rows.{meant}
+use Rattle.together.proofs.compared.Statement.{statement}
+use Rattle.together.proofs.compared.Tie as tie
+
+returns : tie.Need-returns
+unfolding meant compared
+returns c = c .both .ensures ∙ rw (c .before .union2 .ensures, c .before .before .union .ensures, c .before .before .before .owed .ensures, c .before .before .before .before .tied-var .ensures)
+
+pub compared-spec : {M : Type 1} → statement M
+compared-spec = tie.close (tie.spec (λ c κs. c .pre) (λ c κs. tt) (λ c κs. tt) (λ c κs. tt) (λ c κs. tt) returns)

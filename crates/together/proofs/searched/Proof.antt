@@ -1,0 +1,13 @@
+-- `searched` keeps the free names, and what is computed is broken. Assumes nothing.
+use borrow.Author.Needs.{needs}
+use Rattle.known.specs.Known.{searched}
+use Rattle.known.specs.Rows.{meant}
+use Rattle.together.proofs.searched.Statement.{statement}
+use Rattle.together.proofs.searched.Tie as tie
+
+returns : tie.Need-returns
+unfolding meant searched
+returns c = rw (c .empty .ensures)
+
+pub searched-spec : {M : Type 1} → statement M
+searched-spec = tie.close (tie.spec (λ c κs. tt) returns)
