@@ -1,41 +1,45 @@
--- Two names walked together: their order, and when they are the same; and a reserved word as a name, its padding written out. Assumes nothing.
-use mathlib.Core.Path.{_≡_, refl, sym, ap₂, _∙_}
-use mathlib.Core.Bool.{Bool, true, false, _&&_, _||_, or-false}
+-- Two names walked together, eight bytes at a time: their order, and when they are the same; and a reserved word as a name, its padding written out. Assumes nothing.
+use mathlib.Core.Path.{_≡_, refl, sym, ap, ap₂, _∙_}
+use mathlib.Core.Bool.{Bool, true, false, _&&_, _||_, and-false, or-false}
 use mathlib.Core.List.{List, [], _∷_, _++_}
-use Prim.Native.Nat.{ℕ, zero, suc, _+_, _≤_, _<_}
-use native.Mathlib.Numerals.{add-one}
+use Prim.Native.Nat.{ℕ, zero, suc, _+_, _<_}
+use native.Mathlib.Nat.{le-of-eq}
 use native.Mathlib.Omega.{arith}
-use borrow.Author.Tests.{eqb-true, eqb-false, ne-eqb, le-ltb}
+use borrow.Author.Tests.{eq-eqb, ne-eqb, le-ltb}
 use lib.Dec.{eqb, ltb, eqb·zero-suc, eqb·suc-zero}
-use lib.ListN.{length, getD, drop, drop-of-length-le, replicate}
-use lib.Seq.{drop-cons}
-use Rattle.paper.specs.Record.{zeros, precedes, ascii}
-use Rattle.paper.specs.Scoping.{is-word, is-reserved}
+use lib.ListN.{length, drop, drop-of-length-le, replicate}
+use Rattle.paper.specs.Record.{zeros, precedes}
+use Rattle.paper.specs.Scoping.{is-word}
 use Rattle.words.specs.Same.{same}
+use Rattle.words.specs.Eights.{eight, turned}
+use Rattle.words.proofs.Eights.{Name, higher-ltb, eights}
 
-module _ (a b : List ℕ) (i : ℕ) (ha : i < length a) (hb : i < length b) where
-  pub precedes-differ : eqb (getD a i 0) (getD b i 0) ≡ false → precedes (drop i a) (drop i b) ≡ ltb (getD a i 0) (getD b i 0)
+module _ {a b : List ℕ} (m : Name a) (n : Name b) where
+  module _ (i : ℕ) (h : i + 7 < 24) {x y : ℕ} (p : x ≡ eight a i) (q : y ≡ eight b i) where
+    precedes-eight : precedes (drop i a) (drop i b) ≡ (ltb (turned x) (turned y) || (eqb x y && precedes (drop (i + 8) a) (drop (i + 8) b)))
+    unfolding precedes
+    precedes-eight = eights precedes ltb (λ u v us vs. refl) higher-ltb m n i h p q
+
+    pub precedes-differ : {u v : ℕ} → u ≡ turned x → v ≡ turned y → (x ≡ y → ⊥) → precedes (drop i a) (drop i b) ≡ ltb u v
+    precedes-differ s t d = rw (s, t, precedes-eight, ne-eqb x y d) (or-false _)
+
+    pub precedes-next : x ≡ y → precedes (drop i a) (drop i b) ≡ precedes (drop (i + 8) a) (drop (i + 8) b)
+    precedes-next e = precedes-eight ∙ rw (le-ltb (turned x) (turned y) (le-of-eq (sym (ap turned e))), eq-eqb x y e)
+
+    pub precedes-last : {u v : ℕ} → u ≡ turned x → v ≡ turned y → precedes (drop (i + 8) a) (drop (i + 8) b) ≡ false → precedes (drop i a) (drop i b) ≡ ltb u v
+    precedes-last s t e = rw (s, t, precedes-eight, e, and-false (eqb x y)) (or-false _)
+
+    pub same-eight : {rest : Bool} → same (drop (i + 8) a) (drop (i + 8) b) ≡ rest → same (drop i a) (drop i b) ≡ (eqb x y && rest)
+    unfolding same
+    same-eight e = rw (← e) (eights same (λ u v. false) (λ u v us vs. refl) (λ r s u v k l. sym (and-false (eqb r s))) m n i h p q)
+
+  pub precedes-end : precedes (drop 24 a) (drop 24 b) ≡ false
   unfolding precedes
-  precedes-differ t = rw (drop-cons a i 0 ha, drop-cons b i 0 hb, precedes, t) (or-false _)
+  precedes-end = rw (drop-of-length-le a (le-of-eq (m .size)), drop-of-length-le b (le-of-eq (n .size)), precedes)
 
-  pub precedes-next : eqb (getD a i 0) (getD b i 0) ≡ true → precedes (drop i a) (drop i b) ≡ precedes (drop (i + 1) a) (drop (i + 1) b)
-  unfolding precedes
-  precedes-next t =
-      let e : getD a i 0 ≡ getD b i 0 = eqb-true _ _ t in
-      rw (add-one, drop-cons a i 0 ha, drop-cons b i 0 hb, precedes, le-ltb (getD a i 0) (getD b i 0) (omega arith), t)
-
-  pub same-step : same (drop i a) (drop i b) ≡ (eqb (getD a i 0) (getD b i 0) && same (drop (i + 1) a) (drop (i + 1) b))
+  pub same-end : same (drop 24 a) (drop 24 b) ≡ true
   unfolding same
-  same-step = rw (add-one, drop-cons a i 0 ha, drop-cons b i 0 hb, same)
-
-module _ (a b : List ℕ) (i : ℕ) (ha : length a ≤ i) (hb : length b ≤ i) where
-  pub precedes-end : precedes (drop i a) (drop i b) ≡ false
-  unfolding precedes
-  precedes-end = rw (drop-of-length-le a {i = i} ha, drop-of-length-le b {i = i} hb, precedes)
-
-  pub same-end : same (drop i a) (drop i b) ≡ true
-  unfolding same
-  same-end = rw (drop-of-length-le a {i = i} ha, drop-of-length-le b {i = i} hb, same)
+  same-end = rw (drop-of-length-le a (le-of-eq (m .size)), drop-of-length-le b (le-of-eq (n .size)), same)
 
 zero-first : (y : ℕ) → eqb 0 y ≡ eqb y 0
 zero-first zero = refl
@@ -59,24 +63,3 @@ same-word (x ∷ word) k (y ∷ n) h = go (eqb x y) (same-word word k n (omega a
         → (b && same (word ++ replicate k 0) n) ≡ elim b [ true ↦ is-word word n | false ↦ false ]
     go true e = e
     go false e = refl
-
--- ---- a name that begins as no reserved word does
-
-neither : (a b : Bool) → (a || b) ≡ false → (a ≡ false) × (b ≡ false)
-neither true b e = let z : _≡_ {A = ℕ} 0 1 = cc in absurd (omega arith)
-neither false b e = (refl, e)
-
-other-word : (x : ℕ) (word : List ℕ) (y : ℕ) (n : List ℕ) → eqb y x ≡ false → is-word (x ∷ word) (y ∷ n) ≡ false
-unfolding is-word
-other-word x word y n t = rw (is-word, ne-eqb x y (λ e. eqb-false y x t (sym e)))
-
-pub not-reserved : (n : List ℕ) → 0 < length n
-    → (eqb (getD n 0 0) 112 || (eqb (getD n 0 0) 97 || (eqb (getD n 0 0) 114 || eqb (getD n 0 0) 99))) ≡ false
-    → is-reserved n ≡ false
-unfolding is-reserved ascii
-not-reserved [] h t = absurd (omega arith)
-not-reserved (y ∷ n) h t =
-    let p = neither _ _ t in
-    let a = neither _ _ (p .1) in
-    let r = neither _ _ (a .1) in
-    ap₂ _||_ (other-word 112 _ y n (p .0)) (ap₂ _||_ (other-word 97 _ y n (a .0)) (ap₂ _||_ (other-word 114 _ y n (r .0)) (other-word 99 _ y n (r .1))))

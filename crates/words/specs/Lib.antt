@@ -1,2 +1,3 @@
--- When two names are the same, byte by byte.
+-- When two names are the same, and a run of their bytes as one number.
 pub mod Same
+pub mod Eights

@@ -1,13 +1,14 @@
 // Names as 24 bytes, zero padded: their form, their order, the reserved words, and a name without its padding.
 ghost use mathlib.Core.Path.{_≡_};
 ghost use mathlib.Core.Bool.{_||_};
-ghost use Prim.Native.Nat.{_≤_};
+ghost use Prim.Native.Nat.{_+_, _*_, _<_, _≤_};
 ghost use lib.ListN.{length, take};
 // A definition that shares its name with a function here is marked with ᵈ.
 ghost use Rattle.paper.specs.Record.{letter as letterᵈ, digit, is-name as is-nameᵈ, precedes as precedesᵈ};
 ghost use Rattle.paper.specs.Scoping.{is-reserved as is-reservedᵈ};
 ghost use Rattle.paper.specs.TheList.{trimmed};
 ghost use Rattle.words.specs.Same.{same as sameᵈ};
+ghost use Rattle.words.specs.Eights.{four as fourᵈ, eight as eightᵈ, half-turned, turned as turnedᵈ};
 
 // The reserved words, padded as a name is, so that 24 bytes are compared at once.
 const PRINCIPAL: [u8; 24] = *b"principal\0\0\0\0\0\0\0\0\0\0\0\0\0\0\0";
@@ -49,20 +50,59 @@ pub fn is_name(n: [u8; 24]) -> bool
     ok
 }
 
-// Whether a comes strictly before b. Names mostly differ early, so the first difference ends the walk.
+fn joined(a: u8, b: u8, c: u8, d: u8) -> u64
+    ensures { λ r. ⌜ (r ≡ a + 0x100 * b + 0x10000 * c + 0x1000000 * d) × (r < 0x100000000) ⌝ }
+{
+    (a as u64) + 0x100 * (b as u64) + 0x10000 * (c as u64) + 0x1000000 * (d as u64)
+}
+
+fn four(n: [u8; 24], i: usize) -> u64
+    requires { ⌜ i ≤ 20 ⌝ }
+    ensures { λ r. ⌜ (r ≡ fourᵈ n i) × (r < 0x100000000) ⌝ }
+{
+    joined(n[i], n[i + 1], n[i + 2], n[i + 3])
+}
+
+// Eight bytes as one number, the first lowest, as the processor has them: the compiler makes one load of it, and keeps a name in three registers.
+fn eight(n: [u8; 24], i: usize) -> u64
+    requires { ⌜ i ≤ 16 ⌝ }
+    ensures { λ r. ⌜ r ≡ eightᵈ n i ⌝ }
+{
+    four(n, i) + 0x100000000 * four(n, i + 4)
+}
+
+// The lowest four bytes the other way round.
+fn half_turned(x: u64) -> u64
+    ensures { λ r. ⌜ (r ≡ half-turned x) × (r < 0x100000000) ⌝ }
+{
+    0x1000000 * (x % 0x100)
+        + 0x10000 * (x / 0x100 % 0x100)
+        + 0x100 * (x / 0x10000 % 0x100)
+        + x / 0x1000000 % 0x100
+}
+
+// The first byte highest, so that numbers are ordered as their bytes are: the compiler makes a byte swap of it.
+fn turned(x: u64) -> u64
+    ensures { λ r. ⌜ r ≡ turnedᵈ x ⌝ }
+{
+    0x100000000 * half_turned(x) + half_turned(x / 0x100000000)
+}
+
+// Whether a comes strictly before b. The first numbers that differ decide, and only those are turned.
 pub fn precedes(a: [u8; 24], b: [u8; 24]) -> bool
     ensures { λ r. ⌜ r ≡ precedesᵈ a b ⌝ }
 {
-    let mut i: usize = 0;
-    while i < 24 {
-        let x = a[i];
-        let y = b[i];
-        if x != y {
-            return x < y;
-        }
-        i = i + 1;
+    let x = eight(a, 0);
+    let y = eight(b, 0);
+    if x != y {
+        return turned(x) < turned(y);
     }
-    false
+    let next = eight(a, 8);
+    let other = eight(b, 8);
+    if next != other {
+        return turned(next) < turned(other);
+    }
+    turned(eight(a, 16)) < turned(eight(b, 16))
 }
 
 // The first 24 bytes.
@@ -82,23 +122,13 @@ pub fn copied(b: &[u8]) -> [u8; 24]
 fn same(a: [u8; 24], b: [u8; 24]) -> bool
     ensures { λ r. ⌜ r ≡ sameᵈ a b ⌝ }
 {
-    let mut ok = true;
-    let mut i: usize = 0;
-    while i < 24 {
-        ok = ok & (a[i] == b[i]);
-        i = i + 1;
-    }
-    ok
+    (eight(a, 0) == eight(b, 0)) & ((eight(a, 8) == eight(b, 8)) & (eight(a, 16) == eight(b, 16)))
 }
 
-// Whether a name is one of the four words. Few begin as one of them does, so that most are told by their first byte.
+// The numbers of the four words are constants to the compiler, so that a name is told from them without a branch.
 pub fn is_reserved(n: [u8; 24]) -> bool
     ensures { λ r. ⌜ r ≡ is-reservedᵈ n ⌝ }
 {
-    let first = n[0];
-    if !((first == b'p') | ((first == b'a') | ((first == b'r') | (first == b'c')))) {
-        return false;
-    }
     same(PRINCIPAL, n) | (same(ACTION, n) | (same(RESOURCE, n) | same(CONTEXT, n)))
 }
 

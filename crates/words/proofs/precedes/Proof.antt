@@ -1,62 +1,56 @@
--- `precedes` is the byte order. The loop's invariant: what is left of both names decides.
-use Prim.Native.Nat.{_≤_, _-_}
-use mathlib.Core.Path.{_≡_, refl, sym, _∙_}
-use native.Mathlib.Omega.{arith}
-use lib.ListN.{drop}
-use borrow.Author.Needs.{needs}
-use borrow.Author.Tests.{eq-eqb, ne-eqb}
-use Rattle.paper.specs.Record.{precedes}
-use Rattle.words.proofs.Pairs.{precedes-differ, precedes-next, precedes-end}
+-- `precedes` compares eight bytes at a time: the first numbers that differ decide, and where none does neither name comes first. Assumes nothing.
+use mathlib.Core.Path.{sym, _∙_}
+use lib.Dec.{lit≤}
+use Rattle.words.proofs.Eights.{typed}
+use Rattle.words.proofs.Pairs.{precedes-differ, precedes-next, precedes-last, precedes-end}
 use Rattle.words.proofs.precedes.Statement.{statement}
 use Rattle.words.proofs.precedes.Tie as tie
 
-abbrev Inv-loop : tie.InvT-loop
-Inv-loop a b i₀ i = (i ≤ 24) × (precedes a b ≡ precedes (drop i a) (drop i b))
-
-abbrev μ-loop : tie.MeasureT-loop
-μ-loop a b i₀ i = 24 - i
-
-loop-holds : tie.Need-loop-holds Inv-loop μ-loop
-loop-holds c = (omega arith, refl)
-
-array-read-x : tie.Need-array-read-x Inv-loop μ-loop
-array-read-x c = search needs
-
-array-read-y : tie.Need-array-read-y Inv-loop μ-loop
-array-read-y c = search needs
-
-returns : tie.Need-returns Inv-loop μ-loop
+returns : tie.Need-returns
 returns c =
-    let v = c .before .before .loop in
-    sym (v .inv .1 ∙ precedes-differ _ _ (v .i) (omega arith) (omega arith) (ne-eqb _ _ (c .if1 .taken)))
+    let f = c .before .before in
+    let g = f .before .before .before .good in
+    sym (precedes-differ (typed _ _ (g .0)) (typed _ _ (g .1 .0)) 0 (lit≤ tt) (f .before .before .eight .ensures) (f .before .eight2 .ensures) (c .before .turned .ensures) (c .turned2 .ensures)
+    (f .if1 .taken))
 
-add-i : tie.Need-add-i Inv-loop μ-loop
-add-i c = search needs
-
-loop-less : tie.Need-loop-less Inv-loop μ-loop
-loop-less c = search needs
-
-loop-again : tie.Need-loop-again Inv-loop μ-loop
-loop-again c =
-    let v = c .before .before .loop in
-    (omega arith, v .inv .1 ∙ precedes-next _ _ (v .i) (omega arith) (omega arith) (eq-eqb _ _ (c .if1 .left)))
-
-returns-2 : tie.Need-returns-2 Inv-loop μ-loop
+returns-2 : tie.Need-returns-2
 returns-2 c =
-    let v = c .before .loop in
-    sym (v .inv .1 ∙ precedes-end _ _ (v .i) (omega arith) (omega arith))
+    let s = c .before .before in
+    let f = s .before .before .before in
+    let g = f .before .before .before .good in
+    let a = typed _ _ (g .0) in
+    let b = typed _ _ (g .1 .0) in
+    sym (precedes-next a b 0 (lit≤ tt) (f .before .before .eight .ensures) (f .before .eight2 .ensures) (f .if1 .left)
+    ∙ precedes-differ a b 8 (lit≤ tt) (s .before .before .eight3 .ensures) (s .before .eight4 .ensures) (c .before .turned3 .ensures) (c .turned4 .ensures) (s .if2 .taken))
+
+returns-3 : tie.Need-returns-3
+returns-3 c =
+    let t = c .before .before in
+    let s = t .before .before in
+    let f = s .before .before .before in
+    let g = f .before .before .before .good in
+    let a = typed _ _ (g .0) in
+    let b = typed _ _ (g .1 .0) in
+    sym (precedes-next a b 0 (lit≤ tt) (f .before .before .eight .ensures) (f .before .eight2 .ensures) (f .if1 .left)
+    ∙ precedes-next a b 8 (lit≤ tt) (s .before .before .eight3 .ensures) (s .before .eight4 .ensures) (s .if2 .left)
+    ∙ precedes-last a b 16 (lit≤ tt) (t .before .eight5 .ensures) (c .before .eight6 .ensures) (t .turned5 .ensures) (c .turned6 .ensures) (precedes-end a b))
 
 pub precedes-spec : {M : Type 1} → statement M
 precedes-spec =
     tie.close
     (tie.spec
-    Inv-loop
-    μ-loop
-    loop-holds
-    array-read-x
-    array-read-y
+    (λ c κs. lit≤ tt)
+    (λ c κs. lit≤ tt)
+    (λ c κs. tt)
+    (λ c κs. tt)
     returns
-    add-i
-    loop-less
-    loop-again
-    returns-2)
+    (λ c κs. lit≤ tt)
+    (λ c κs. lit≤ tt)
+    (λ c κs. tt)
+    (λ c κs. tt)
+    returns-2
+    (λ c κs. lit≤ tt)
+    (λ c κs. tt)
+    (λ c κs. lit≤ tt)
+    (λ c κs. tt)
+    returns-3)
