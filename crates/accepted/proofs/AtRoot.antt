@@ -1,8 +1,8 @@
 -- Each question's answer to accepted bytes, from what stands at the root: what a walk from there writes is the part of the definitions, and there is room to
 -- count it. Assumes nothing.
-use mathlib.Core.Path.{_≡_, sym, ap, ap₂, _∙_}
+use mathlib.Core.Path.{_≡_, sym, ap, ap₂, _∙_, subst}
 use mathlib.Core.List.{List, [], _∷_, _++_}
-use Prim.Native.Nat.{ℕ, _-_, _<_, _≤_}
+use Prim.Native.Nat.{ℕ, _+_, _*_, _-_, _<_, _≤_}
 use lib.ListN.{length, length-map, getD}
 use borrow.Author.Tests.{le-leb, lt-leb}
 use native.Mathlib.Omega.{arith}
@@ -24,6 +24,7 @@ use Rattle.paper.specs.TheList.{the-list, pack, packed}
 use Rattle.paper.specs.Questions.{answered, arithmetic-of, arithmetic, listing-of, list, buffer-of, list-buffer}
 use Rattle.paper.proofs.Walks.{All}
 use Rattle.paper.proofs.Lengths.{scoping-length, closedness-length, demands-length, list-length}
+use Rattle.paper.proofs.Bound.{list-bounded}
 use Rattle.paper.proofs.Fitting.{Fits, scoping-fits, closedness-fits, demands-fits}
 use Rattle.names.specs.Words.{mem}
 use Rattle.memory.specs.Columns.{Copies}
@@ -39,7 +40,7 @@ use Rattle.owed.specs.Demanded.{demanded}
 use Rattle.listing.specs.declared.Check.{Check}
 use Rattle.listing.specs.declared.Check.the-variants.{Scoping, Closedness, Demands}
 use Rattle.listing.specs.Parts.{Last, demands-of, part-of, listed, Filled}
-use Rattle.accepted.specs.Ready.{Ready, Reserved, ReservedFor, part-asked}
+use Rattle.accepted.specs.Ready.{Ready, Counted, Reserved, ReservedFor, part-asked}
 
 module _ (bytes starts : List ℕ) {k : ℕ} (p : Ready bytes starts k) where
   told : Told bytes (p .names) k
@@ -51,6 +52,13 @@ module _ (bytes starts : List ℕ) {k : ℕ} (p : Ready bytes starts k) where
       let some = told .formed .some-node in
       let few = told .formed .few-nodes in
       (omega arith, omega arith)
+
+  pub counts-small : {names : ℕ} → Counted bytes names k → (names ≤ 128) × (k ≤ 512)
+  counts-small c =
+      let t = counts-are bytes c in
+      let n = t .names-are in
+      let f = t .formed .few-names in
+      (omega arith, some-root .1)
 
   last-node : (i : NodeNo) → i ≡ node-no (k - 1) → root-no (contents bytes) ≡ i
   unfolding root-no
@@ -138,6 +146,16 @@ module _ (bytes starts : List ℕ) {k : ℕ} (p : Ready bytes starts k) where
 
       pub list-room : Room written 0
       list-room = room-is (sym list-parts) (let l = list-length (contents bytes) (told .formed) in record { left = omega arith })
+
+      -- no list is longer than what the code asks room for
+      pub list-most : {names most : ℕ} → Counted bytes names k → most ≡ 3 * k + names * (k + 1) → length written ≤ most
+      list-most counted e =
+          let t = counts-are bytes counted in
+          subst (λ (x : ℕ). length written ≤ x) (sym e)
+          (subst (λ (x : ℕ). length written ≤ 3 * k + x * (k + 1)) (t .names-are)
+          (subst (λ (x : ℕ). length written ≤ 3 * x + length (contents bytes .names) * (x + 1)) (t .nodes-are)
+          (subst (λ (fs : List Finding). length fs ≤ 3 * length (contents bytes .nodes) + length (contents bytes .names) * (length (contents bytes .nodes) + 1)) (sym list-parts)
+          (list-bounded (contents bytes) (t .formed)))))
 
       module _ {count : ℕ} {before after : List ℕ} (w : Filled written count before after) where
         counted : count ≡ length (packed (contents bytes))

@@ -19,6 +19,10 @@ pub record Ready (bytes starts : List ℕ) (nodes : ℕ) : Type 0 where
   pub counted : verdict (read bytes) ≡ Counts names nodes
   pub stored : Stored bytes starts
 
+-- and with so many names
+abbrev pub Counted : List ℕ → ℕ → ℕ → Type 0
+Counted bytes names nodes = verdict (read bytes) ≡ Counts names nodes
+
 -- these are the reserved words among the bytes' names
 abbrev pub Reserved : List ℕ → Names → Type 0
 Reserved bytes words = mem words ≡ reserved (contents bytes .names)

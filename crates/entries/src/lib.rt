@@ -1,16 +1,13 @@
-// The rows, and over them one part of the list, or the whole list.
+// The rows, and over them one part of the list.
 use facts::collect_facts;
 use listing::Check;
-use listing::write_list;
 use listing::write_part;
-use names::Names;
 use paper::NodeNo;
 ghost use Prim.Native.Nat.{_<_};
 ghost use lib.ListN.{length};
-ghost use Rattle.names.specs.Words.{mem};
 ghost use Rattle.trees.specs.Trees.{condition-of};
 ghost use Rattle.writes.specs.Written.{Room, Wrote};
-ghost use Rattle.listing.specs.Parts.{Last, part-of, listed, Filled};
+ghost use Rattle.listing.specs.Parts.{Last, part-of};
 
 fn part_noted(
     columns: &[u16; 2049],
@@ -27,7 +24,7 @@ fn part_noted(
     write_part(columns, rows, i, check, out)
 }
 
-// The entries that a check asks for. Here and below, few nodes take few rows, since rows have to be cleared.
+// The entries that a check asks for. Few nodes take few rows, since rows have to be cleared.
 pub fn part_entries(columns: &[u16; 2049], i: NodeNo, check: Check, out: &mut [u32]) -> usize
     requires { ⌜ Last (now columns) (i .0) ⌝ }
     requires { ⌜ Room (part-of check i (condition-of (now columns) (i .0))) 0 ⌝ }
@@ -40,42 +37,4 @@ pub fn part_entries(columns: &[u16; 2049], i: NodeNo, check: Check, out: &mut [u
     }
     let mut all = [blank; 512];
     part_noted(columns, i, check, &mut all, out)
-}
-
-fn list_noted(
-    columns: &[u16; 2049],
-    i: NodeNo,
-    words: Names,
-    rows: &mut [[u64; 7]],
-    out: &mut [u32],
-) -> usize
-    requires { ⌜ Last (now columns) (i .0) × (i .0 < length (now rows)) ⌝ }
-    requires { ⌜ Room (listed (mem words) i (condition-of (now columns) (i .0))) 0 ⌝ }
-    ensures { λ r. ⌜ Filled (listed (mem words) i (condition-of (now (columns .entry)) (i .0))) r (now (out .entry)) (now (out .exit)) ⌝ }
-{
-    collect_facts(columns, rows, i);
-    let mut one = [0u32; 1];
-    let count = write_list(columns, rows, i, words, &mut one);
-    if count == 0 {
-        return count;
-    }
-    if out.len() < count {
-        return count;
-    }
-    write_list(columns, rows, i, words, out)
-}
-
-// The entries of the whole list, and how many they are. They are counted first, so that a list without room writes nothing.
-pub fn list_entries(columns: &[u16; 2049], i: NodeNo, words: Names, out: &mut [u32]) -> usize
-    requires { ⌜ Last (now columns) (i .0) ⌝ }
-    requires { ⌜ Room (listed (mem words) i (condition-of (now columns) (i .0))) 0 ⌝ }
-    ensures { λ r. ⌜ Filled (listed (mem words) i (condition-of (now (columns .entry)) (i .0))) r (now (out .entry)) (now (out .exit)) ⌝ }
-{
-    let blank = [0u64; 7];
-    if i.0 < 32 {
-        let mut few = [blank; 32];
-        return list_noted(columns, i, words, &mut few, out);
-    }
-    let mut all = [blank; 512];
-    list_noted(columns, i, words, &mut all, out)
 }

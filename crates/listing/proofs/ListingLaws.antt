@@ -83,3 +83,7 @@ module _ {fs : List Finding} {count : ℕ} {one counted : List ℕ} (w : Wrote f
       let t = v .total in
       let u = w .total in
       record { total = omega arith; kept = λ h. absurd (omega arith); wrote = λ h. v }
+
+-- the walk that writes at once
+pub filled-at-once : {fs : List Finding} {most next : ℕ} {before after : List ℕ} → length fs ≤ most → most ≤ length before → Wrote fs 0 next before after → Filled fs next before after
+filled-at-once f l v = let t = v .total in record { total = omega arith; kept = λ h. absurd (omega arith); wrote = λ h. v }

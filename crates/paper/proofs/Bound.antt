@@ -1,5 +1,5 @@
 -- How long an accepted record's list can be, by how many nodes and names the record has:
---     list-fits    3 entries for each node, one of each name for each node, and one of each name for 28
+--     list-bounded    3 entries for each node, one of each name for each node, and one of each name for 28
 -- The two walks are counted together, since no node has entries of both. An aggregate, a comparison, Not and Since have each free name once at most, an aggregate
 -- one entry more, and every other node, also a binder cell, has 3 at most. Assumes nothing.
 use mathlib.Core.Path.{_≡_, refl, ap, ap₂, _∙_}
@@ -285,9 +285,9 @@ parts-fit c f seed =
     picked (λ (l : List Finding). length l ≤ length asked) (holds-sigil (root c)) [] asked (omega arith) (omega arith) in
     omega (arith, both-fit N words (root c) (sane-root c f) seed none true, f .whole (λ k. 3 + N), sum-same (3 + N) (length (c .nodes)))
 
-pub list-fits : (c : Contents) → WellFormed c → length (the-list c) ≤ 3 * length (c .nodes) + length (c .names) * (length (c .nodes) + 1)
+pub list-bounded : (c : Contents) → WellFormed c → length (the-list c) ≤ 3 * length (c .nodes) + length (c .names) * (length (c .nodes) + 1)
 unfolding the-list
-list-fits c f =
+list-bounded c f =
     let N = length (c .names) in
     let n = length (c .nodes) in
     omega (

@@ -16,7 +16,7 @@ use Rattle.record.specs.Arena.{Read}
 use Rattle.record.specs.Stored.{contents}
 use Rattle.record.proofs.StoredLaws.{read-stored}
 use Rattle.record.proofs.Verdicts.{refused-is, counts-are}
-use Rattle.accepted.specs.Ready.{Ready, Reserved}
+use Rattle.accepted.specs.Ready.{Ready, Counted, Reserved}
 
 module _ (bytes : List ℕ) (r : Reading) (p : Read bytes r) {n o : ℕ} (e : r .verdict ≡ Refused n o) where
   refused : read bytes ≡ outcome.refused n o
@@ -35,8 +35,11 @@ module _ (bytes : List ℕ) (r : Reading) (p : Read bytes r) {n o : ℕ} (e : r 
   arithmetic-refused = ap arithmetic-of refused
 
 module _ (bytes : List ℕ) (r : Reading) (p : Read bytes r) {n k : ℕ} (e : r .verdict ≡ Counts n k) where
+  pub counted : Counted bytes n k
+  counted = sym (p .said) ∙ e
+
   pub ready : Ready bytes (r .arena .starts) k
-  ready = record { names = n; counted = sym (p .said) ∙ e; stored = read-stored bytes r p }
+  ready = record { names = n; counted = counted; stored = read-stored bytes r p }
 
   pub reserves : Reserved bytes (r .arena .reserved)
   reserves = p .held (contents bytes) (counts-are bytes (ready .counted) .outcome) .words

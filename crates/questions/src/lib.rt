@@ -74,9 +74,9 @@ pub fn list(bytes: &[u8], out: &mut [u32]) -> Listing
 {
     let r = read(bytes);
     let v = r.verdict;
-    let Verdict::Counts { names: _, nodes } = v else {
+    let Verdict::Counts { names, nodes } = v else {
         return passed_listing(v);
     };
     let words = r.arena.reserved;
-    accepted::list(bytes, &r.arena.starts, nodes, words, out)
+    accepted::list(bytes, &r.arena.starts, names, nodes, words, out)
 }

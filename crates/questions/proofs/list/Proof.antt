@@ -2,7 +2,7 @@
 use mathlib.Core.Path.{sym, ap, _∙_}
 use borrow.Author.Needs.{needs}
 use Rattle.refusals.specs.Passed.{listing-passed}
-use Rattle.questions.proofs.ByVerdict.{list-refused, ready, reserves}
+use Rattle.questions.proofs.ByVerdict.{list-refused, ready, reserves, counted}
 use Rattle.questions.proofs.list.Statement.{statement}
 use Rattle.questions.proofs.list.Tie as tie
 
@@ -16,7 +16,7 @@ returns c =
 list-requires : tie.Need-list-requires
 list-requires c κs =
     let v = c .before .before .before .before .before in
-    (ready _ _ (v .before .before .read .ensures) (v .v .given .1), reserves _ _ (v .before .before .read .ensures) (v .v .given .1))
+    (ready _ _ (v .before .before .read .ensures) (v .v .given .1), reserves _ _ (v .before .before .read .ensures) (v .v .given .1), counted _ _ (v .before .before .read .ensures) (v .v .given .1))
 
 pub list-spec : {M : Type 1} → statement M
 list-spec =

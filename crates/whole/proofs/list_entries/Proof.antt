@@ -1,8 +1,8 @@
--- `list_entries` has a row for each node: 32 of them, or 512.
+-- `list_entries` has a row for each node: 32 of them, or 512. Assumes nothing.
 use borrow.Author.Needs.{needs}
 use Rattle.listing.proofs.ListingLaws.{in-all-rows}
-use Rattle.entries.proofs.list_entries.Statement.{statement}
-use Rattle.entries.proofs.list_entries.Tie as tie
+use Rattle.whole.proofs.list_entries.Statement.{statement}
+use Rattle.whole.proofs.list_entries.Tie as tie
 
 pub list-entries-spec : {M : Type 1} → statement M
 list-entries-spec =
