@@ -67,6 +67,22 @@ fn put_then(columns: &[u16; 2049], rows: &mut [[u64; 7]], i: NodeNo, b: NodeNo, 
     put_facts(rows, i, f);
 }
 
+// The row of a node, by how many parts it has. It is called from two places, so that it stays a function of its own, and what it needs is not held on the stack
+// at every level below.
+fn put_own(columns: &[u16; 2049], rows: &mut [[u64; 7]], i: NodeNo)
+    requires { ⌜ Has (now columns) (i .0) × (i .0 < length (now rows)) ⌝ }
+    requires { ⌜ All (Right (now columns) (now rows)) (nodes-of (parts-of (node-of (now columns) (i .0)))) ⌝ }
+    ensures { λ r. ⌜ Kept (now (columns .entry)) (now (rows .entry)) (now (rows .exit)) × Right (now (columns .entry)) (now (rows .exit)) (i .0) ⌝ }
+{
+    match parts_at(columns, i) {
+        Parts::Leaf => put_leaf(columns, rows, i),
+        Parts::One(b) => put_one(columns, rows, i, b),
+        Parts::Two(l, r) => put_two(columns, rows, i, l, r),
+        Parts::List(list) => put_list(columns, rows, i, list),
+        Parts::Then(b, list) => put_then(columns, rows, i, b, list),
+    }
+}
+
 // A list is gone through by a loop, so that a long one is not deep.
 fn collect_list(columns: &[u16; 2049], rows: &mut [[u64; 7]], list: NodeNo)
     requires { ⌜ Has (now columns) (list .0) × (list .0 < length (now rows)) × (is-row (tree-of (now columns) (list .0)) ≡ true) ⌝ }
@@ -95,24 +111,19 @@ pub fn collect_facts(columns: &[u16; 2049], rows: &mut [[u64; 7]], i: NodeNo)
     ensures { λ r. ⌜ Gathered (now (columns .entry)) (now (rows .entry)) (now (rows .exit)) (i .0) ⌝ }
 {
     match parts_at(columns, i) {
-        Parts::Leaf => put_leaf(columns, rows, i),
-        Parts::One(b) => {
-            collect_facts(columns, rows, b);
-            put_one(columns, rows, i, b);
+        Parts::Leaf => {
+            return put_own(columns, rows, i);
         }
+        Parts::One(b) => collect_facts(columns, rows, b),
         Parts::Two(l, r) => {
             collect_facts(columns, rows, l);
             collect_facts(columns, rows, r);
-            put_two(columns, rows, i, l, r);
         }
-        Parts::List(list) => {
-            collect_list(columns, rows, list);
-            put_list(columns, rows, i, list);
-        }
+        Parts::List(list) => collect_list(columns, rows, list),
         Parts::Then(b, list) => {
             collect_facts(columns, rows, b);
             collect_list(columns, rows, list);
-            put_then(columns, rows, i, b, list);
         }
     }
+    put_own(columns, rows, i);
 }

@@ -1,11 +1,15 @@
--- `collect_facts` and `collect_list` call each other on the nodes below; the measure is the node's number. The needs are in the order of the code.
-use mathlib.Core.Path.{refl, sym, ap, _∙_}
+-- `collect_facts` and `collect_list` call each other on the nodes below; the measure is the node's number. First where the ways of `collect_facts` meet, with the
+-- rows of the parts right; then the needs in the order of the code.
+use mathlib.Core.Path.{refl, sym, ap, _∙_, subst}
+use mathlib.Core.Logic.{⊎-elim}
+use mathlib.Core.List.{List}
 use native.Mathlib.Omega.{arith}
+use denote.Ref.{now}
 use borrow.Author.Needs.{needs}
 use Rattle.known.specs.Known.{join, nothing}
-use Rattle.known.specs.Rows.{meant}
+use Rattle.known.specs.Rows.{meant, node-of}
 use Rattle.known.proofs.RowLaws.{put-long, read-right}
-use Rattle.known.proofs.NodeLaws.{node-held, room, call, call-list, came-none, came-one, came-two, came-right, finished}
+use Rattle.known.proofs.NodeLaws.{node-held, room, call, call-list, Came, came-none, came-one, came-two, came-right, finished}
 use Rattle.known.proofs.ListLaws.{Along, along-start, along-step, along-end, parts-held}
 use Prim.Native.Nat.{ℕ, _<_, _≤_}
 use borrow.Fn.Kinds.{In}
@@ -16,11 +20,7 @@ use Rattle.facts.proofs.+collect_facts+collect_list.Lts-collect_facts a
 use Rattle.facts.proofs.collect_list.Reads as collect-list
 use Rattle.facts.proofs.collect_list.Kinds as collect-list-kinds
 use Rattle.facts.proofs.+collect_facts+collect_list.Lts-collect_list as collect-list-lts
-use Rattle.facts.proofs.put_leaf.Reads as put-leaf-reads
-use Rattle.facts.proofs.put_list.Reads as put-list-reads
-use Rattle.facts.proofs.put_one.Reads as put-one-reads
-use Rattle.facts.proofs.put_then.Reads as put-then-reads
-use Rattle.facts.proofs.put_two.Reads as put-two-reads
+use Rattle.facts.proofs.put_own.Reads as put-own-reads
 use Rattle.parts.proofs.parts_at.Reads as parts-at-reads
 use Rattle.rows.proofs.row.facts_at.Reads as facts-at-reads
 use Rattle.rows.proofs.row.put_facts.Reads as put-facts-reads
@@ -60,10 +60,31 @@ collect-list-below t =
     collect-list.Pre
 
 abbrev claims-facts : ℕ → collect-facts-lts.Claims
-claims-facts t = (parts-at-reads.Asked, parts-at-reads.Learnt, put-leaf-reads.Asked, put-leaf-reads.Learnt, collect-facts-below t, collect-facts.Post, put-one-reads.Asked, put-one-reads.Learnt, put-two-reads.Asked, put-two-reads.Learnt, collect-list-below t, collect-list.Post, put-list-reads.Asked, put-list-reads.Learnt, put-then-reads.Asked, put-then-reads.Learnt)
+claims-facts t = (parts-at-reads.Asked, parts-at-reads.Learnt, put-own-reads.Asked, put-own-reads.Learnt, collect-facts-below t, collect-facts.Post, collect-list-below t, collect-list.Post)
 
 abbrev claims-list : ℕ → collect-list-lts.Claims
 claims-list t = (nothing-reads.Asked, nothing-reads.Learnt, parts-at-reads.Asked, parts-at-reads.Learnt, collect-facts-below t, collect-facts.Post, facts-at-reads.Asked, facts-at-reads.Learnt, join-facts-reads.Asked, join-facts-reads.Learnt, put-facts-reads.Asked, put-facts-reads.Learnt)
+
+-- ---- a node
+
+came : (t : ℕ) (c : collect-facts-lts.At-match-came (claims-facts t) (collect-facts-at t) collect-facts.Post)
+    → Came (now (c .before .before .args .columns)) (now (c .before .before .args .rows)) (c .match .rows) (node-of (now (c .before .before .args .columns)) (c .before .before .args .i .0))
+came t c =
+    ⊎-elim (λ w. subst (λ (z : List (List ℕ)). Came _ _ z _) (sym (w .6)) (came-one (sym (w .1 .given .1) ∙ c .before .parts-at .ensures) refl (w .4 .ensures)))
+    (⊎-elim (λ w. subst (λ (z : List (List ℕ)). Came _ _ z _) (sym (w .9)) (came-two (sym (w .1 .given .1) ∙ c .before .parts-at .ensures) refl (w .4 .ensures) (w .7 .ensures)))
+    (⊎-elim (λ w. subst (λ (z : List (List ℕ)). Came _ _ z _) (sym (w .6)) (came-one (sym (w .1 .given .1) ∙ c .before .parts-at .ensures) refl (w .4 .ensures)))
+    (λ w. subst (λ (z : List (List ℕ)). Came _ _ z _) (sym (w .9)) (came-two (sym (w .1 .given .1) ∙ c .before .parts-at .ensures) refl (w .4 .ensures) (w .7 .ensures)))))
+    (c .match .came)
+
+leaf : (t : ℕ) → collect-facts-lts.Need-returns (claims-facts t) (collect-facts-at t) collect-facts.Post
+leaf t c =
+    let s = c .before .before .before .before .before .before in
+    finished (s .pre .1 .0) refl (came-none (sym (c .before .before .before .enum-told .given .1) ∙ c .before .before .before .before .before .parts-at .ensures) refl) (c .before .put-own .ensures)
+
+node : (t : ℕ) → collect-facts-lts.Need-returns-2 (claims-facts t) (collect-facts-at t) collect-facts.Post
+node t c =
+    let s = c .before .before .before .before .before in
+    finished (s .pre .1 .0) refl (came t (c .before .before .before)) (c .before .put-own2 .ensures)
 
 -- ---- a list
 
@@ -94,31 +115,22 @@ pub +collect-facts+collect-list-spec : {M : Type 1} → statement M
     close μ-collect-facts μ-collect-list (λ t. collect-facts-lts.spec (claims-facts t) (collect-facts-at t) collect-facts.Post
     (λ c κs. c .pre .1 .0)
     (λ c. search needs)
-    (λ c κs. let s = c .before .before .before .before in (s .pre .1 .0, s .pre .1 .1, sym (c .before .enum-told .given .1) ∙ c .before .before .before .parts-at .ensures))
+    (λ c κs. let s = c .before .before .before .before in ((s .pre .1 .0, s .pre .1 .1), (came-right (came-none (sym (c .before .enum-told .given .1) ∙ c .before .before .before .parts-at .ensures) refl))))
+    (λ c. c .before .put-own .ensures .0 .long)
+    (leaf t)
     (λ c. search needs)
     (λ c κs. let s = c .before .before .before .before .before in call (node-held (s .pre .1 .0) refl (sym (c .before .before .b .given .1) ∙ c .before .before .before .before .parts-at .ensures)) (s .pre .0) (s .pre .1 .1))
-    (λ c κs. let s = c .before .before .before .before .before .before .before .before in let of = sym (c .before .before .before .before .before .b .given .1) ∙ c .before .before .before .before .before .before .before .parts-at .ensures in let k = came-one of refl (c .before .before .collect-facts .ensures) in ((s .pre .1 .0, room (k .kept) (s .pre .1 .1), of), came-right k))
     (λ c. search needs)
     (λ c κs. let s = c .before .before .before .before .before in call (node-held (s .pre .1 .0) refl (sym (c .before .before .l .given .1) ∙ c .before .before .before .before .parts-at .ensures) .0) (s .pre .0) (s .pre .1 .1))
     (λ c κs. let s = c .before .before .before .before .before .before .before .before in call (node-held (s .pre .1 .0) refl (sym (c .before .before .before .before .before .l .given .1) ∙ c .before .before .before .before .before .before .before .parts-at .ensures) .1) (s .pre .0) (room (c .before .before .collect-facts2 .ensures .kept) (s .pre .1 .1)))
-    (λ c κs. let s = c .before .before .before .before .before .before .before .before .before .before .before in let of = sym (c .before .before .before .before .before .before .before .before .l .given .1) ∙ c .before .before .before .before .before .before .before .before .before .before .parts-at .ensures in let k = came-two of refl (c .before .before .before .before .before .collect-facts2 .ensures) (c .before .before .collect-facts3 .ensures) in ((s .pre .1 .0, room (k .kept) (s .pre .1 .1), of), came-right k))
     (λ c. search needs)
     (λ c κs. let s = c .before .before .before .before .before in let h = node-held (s .pre .1 .0) refl (sym (c .before .before .list .given .1) ∙ c .before .before .before .before .parts-at .ensures) in call-list (h .0) (h .1) (s .pre .0) (s .pre .1 .1))
-    (λ c κs. let s = c .before .before .before .before .before .before .before .before in let of = sym (c .before .before .before .before .before .list .given .1) ∙ c .before .before .before .before .before .before .before .parts-at .ensures in let k = came-one of refl (c .before .before .collect-list .ensures) in ((s .pre .1 .0, room (k .kept) (s .pre .1 .1), of), came-right k))
     (λ c. search needs)
     (λ c κs. let s = c .before .before .before .before .before in call (node-held (s .pre .1 .0) refl (sym (c .before .before .b2 .given .1) ∙ c .before .before .before .before .parts-at .ensures) .0) (s .pre .0) (s .pre .1 .1))
     (λ c κs. let s = c .before .before .before .before .before .before .before .before in let h = node-held (s .pre .1 .0) refl (sym (c .before .before .before .before .before .b2 .given .1) ∙ c .before .before .before .before .before .before .before .parts-at .ensures) in call-list (h .1) (h .2) (s .pre .0) (room (c .before .before .collect-facts4 .ensures .kept) (s .pre .1 .1)))
-    (λ c κs. let s = c .before .before .before .before .before .before .before .before .before .before .before in let of = sym (c .before .before .before .before .before .before .before .before .b2 .given .1) ∙ c .before .before .before .before .before .before .before .before .before .before .parts-at .ensures in let k = came-two of refl (c .before .before .before .before .before .collect-facts4 .ensures) (c .before .before .collect-list2 .ensures) in ((s .pre .1 .0, room (k .kept) (s .pre .1 .1), of), came-right k))
-    (λ c. c .before .put-leaf .ensures .0 .long)
-    (λ c. let s = c .before .before .before .before .before .before in finished (s .pre .1 .0) refl (came-none (sym (c .before .before .before .enum-told .given .1) ∙ c .before .before .before .before .before .parts-at .ensures) refl) (c .before .put-leaf .ensures))
-    (λ c. c .before .put-one .ensures .0 .long ∙ c .before .before .before .before .collect-facts .ensures .kept .long)
-    (λ c. let s = c .before .before .before .before .before .before .before .before .before .before in finished (s .pre .1 .0) refl (came-one (sym (c .before .before .before .before .before .before .before .b .given .1) ∙ c .before .before .before .before .before .before .before .before .before .parts-at .ensures) refl (c .before .before .before .before .collect-facts .ensures)) (c .before .put-one .ensures))
-    (λ c. c .before .put-two .ensures .0 .long ∙ c .before .before .before .before .collect-facts3 .ensures .kept .long ∙ c .before .before .before .before .before .before .before .collect-facts2 .ensures .kept .long)
-    (λ c. let s = c .before .before .before .before .before .before .before .before .before .before .before .before .before in finished (s .pre .1 .0) refl (came-two (sym (c .before .before .before .before .before .before .before .before .before .before .l .given .1) ∙ c .before .before .before .before .before .before .before .before .before .before .before .before .parts-at .ensures) refl (c .before .before .before .before .before .before .before .collect-facts2 .ensures) (c .before .before .before .before .collect-facts3 .ensures)) (c .before .put-two .ensures))
-    (λ c. c .before .put-list .ensures .0 .long ∙ c .before .before .before .before .collect-list .ensures .kept .long)
-    (λ c. let s = c .before .before .before .before .before .before .before .before .before .before in finished (s .pre .1 .0) refl (came-one (sym (c .before .before .before .before .before .before .before .list .given .1) ∙ c .before .before .before .before .before .before .before .before .before .parts-at .ensures) refl (c .before .before .before .before .collect-list .ensures)) (c .before .put-list .ensures))
-    (λ c. c .before .put-then .ensures .0 .long ∙ c .before .before .before .before .collect-list2 .ensures .kept .long ∙ c .before .before .before .before .before .before .before .collect-facts4 .ensures .kept .long)
-    (λ c. let s = c .before .before .before .before .before .before .before .before .before .before .before .before .before in finished (s .pre .1 .0) refl (came-two (sym (c .before .before .before .before .before .before .before .before .before .before .b2 .given .1) ∙ c .before .before .before .before .before .before .before .before .before .before .before .before .parts-at .ensures) refl (c .before .before .before .before .before .before .before .collect-facts4 .ensures) (c .before .before .before .before .collect-list2 .ensures)) (c .before .put-then .ensures)))
+    (λ c κs. let s = c .before .before .before in let k = came t (c .before) in ((s .pre .1 .0, room (k .kept) (s .pre .1 .1)), came-right k))
+    (λ c. c .before .put-own2 .ensures .0 .long ∙ came t (c .before .before .before) .kept .long)
+    (node t))
     λ t. collect-list-lts.spec (claims-list t) (collect-list-at t) collect-list.Post Inv-loop μ-loop
     (λ c κs. search needs)
     (λ c. let s = c .before in (omega arith, along-start (c .nothing .ensures) (s .pre .1 .0) (s .pre .1 .2)))

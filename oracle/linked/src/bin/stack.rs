@@ -1,4 +1,4 @@
-//! `stack`: how many bytes of stack the proved library uses on records at the limits. Fails above 48 KiB, the bound that we set
+//! `stack`: how many bytes of stack the proved library uses on records at the limits. Fails above 56 KiB, the bound that we set
 //! for a question; document 01 has none.
 
 use std::hint::black_box;
@@ -9,7 +9,7 @@ use std::thread;
 use linked::records::{balanced, chain, deep_by_terms, tower, tower_over_all, LAYERS};
 use linked::{Library, Proved};
 
-const MOST: usize = 48 * 1024;
+const MOST: usize = 56 * 1024;
 /// Painted below the caller, and left out because the painter stands there itself.
 const PAINTED: usize = 256 * 1024;
 const SKIPPED: usize = 512;
