@@ -139,13 +139,7 @@ pub fn one_facts(columns: &[u16; 2049], rows: &[[u64; 7]], i: NodeNo, b: NodeNo)
 }
 
 // What is known of a node that has two parts.
-pub fn two_facts(
-    columns: &[u16; 2049],
-    rows: &[[u64; 7]],
-    i: NodeNo,
-    l: NodeNo,
-    r: NodeNo,
-) -> Facts
+pub fn two_facts(columns: &[u16; 2049], rows: &[[u64; 7]], i: NodeNo, l: NodeNo, r: NodeNo) -> Facts
     requires { ⌜ Has (now columns) (i .0) × (Two l r ≡ parts-of (node-of (now columns) (i .0))) × Sound (now columns) (now rows) (node-of (now columns) (i .0)) ⌝ }
     ensures { λ f. ⌜ meant f ≡ own (tree-of (now (columns .entry))) (node-of (now (columns .entry)) (i .0)) ⌝ }
 {

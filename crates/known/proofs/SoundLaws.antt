@@ -244,7 +244,7 @@ module _ (words : Set) where
         (sound-operand r scope (p .1) (right-unreserved (term-binds l) (term-binds r) w) (right-scope (term-unclosed l) (term-unclosed r) (term-free l) (term-free r) scope f)))
     sound-operand (Sum n s l b) scope e w f =
         let p = aggregate-none (is-sigil s || binder-sigil l) n (named s) l b scope (slot-in s (outside (binder-names l))) (slot-out s _) e w f
-                (λ g v h. sound-condition b _ g (λ i. v) h) in
+        (λ g v h. sound-condition b _ g (λ i. v) h) in
         at-none _ (p .0) (p .1)
     sound-operand (Count n l b) scope e w f =
         let p = aggregate-none (binder-sigil l) n none l b scope false (λ g k h. absurd (true≢false (sym h))) e w f (λ g v h. sound-condition b _ g (λ i. v) h) in

@@ -1,9 +1,11 @@
 //! Records of a given size, for the limits and the measurements.
 
+mod every_shape;
 mod layers;
 mod rules;
 mod writer;
 
+pub use every_shape::every_shape;
 pub use layers::{Layer, LAYERS};
 pub use rules::{rule, Plan};
 

@@ -1,5 +1,9 @@
-use linked::records::{balanced, chain, deep_by_terms, tower, tower_over_all, LAYERS};
-use plain::{read, Refusal};
+use std::collections::BTreeSet;
+
+use linked::records::{balanced, chain, deep_by_terms, every_shape, tower, tower_over_all, LAYERS};
+use plain::lists::list;
+use plain::random::Rng;
+use plain::{read, Node, Refusal};
 
 /// 64 deep is accepted and one more is 10, so that the depth is what was asked for.
 fn assert_deep(label: &str, record: impl Fn(usize) -> Vec<u8>) {
@@ -44,4 +48,18 @@ fn a_balanced_tree_has_as_many_names_and_nodes_as_asked_for() {
         let record = read(&balanced(names, nodes)).unwrap();
         assert_eq!((record.names.len(), record.nodes.len()), (names, nodes));
     }
+}
+
+#[test]
+fn records_of_every_shape_have_every_kind_and_nothing_to_find() {
+    let mut rng = Rng::new(1);
+    let mut met = BTreeSet::new();
+    for sigils in [false, true].into_iter().cycle().take(20) {
+        let record = read(&every_shape(&mut rng, 13, sigils)).unwrap();
+        assert_eq!(list(&record), []);
+        assert_eq!(record.holds_sigil(record.root()), sigils);
+        met.extend(record.nodes.iter().map(Node::kind));
+    }
+    let kinds = (0x10..=0x1C).chain(0x20..=0x2B).chain(0x30..=0x33);
+    assert_eq!(met, kinds.collect());
 }

@@ -11,8 +11,7 @@ list-entries-requires c κs =
     let most = asked .before .before in
     let copied = most .before in
     let start = copied .before .before .before .before in
-    let r = asked .root .ensures in
-    (
+    let r = asked .root .ensures in (
       last-root _ _ (start .pre .0) (copied .fill .ensures) _ r,
       (
         list-room _ _ (start .pre .0) (copied .fill .ensures) _ r _ (start .pre .1),

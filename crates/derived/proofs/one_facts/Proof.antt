@@ -57,9 +57,10 @@ sum-requires c κs =
     let a = c .before .before .before in
     let k = a .before in
     let s = k .before .before in
-    let e = said (s .pre .0) (k .number-at .ensures) (c .before .before .match .keys3) in
-    (subst (Has (now (s .args .columns))) (sym (c .number-at3 .ensures)) (first-had (sound-is e (s .pre .2)) refl),
-    subst Tabled (sym (sum-slot (c .before))) (slot-tabled (slot-by (first-number a)) (names-tabled (s .pre .0) e)))
+    let e = said (s .pre .0) (k .number-at .ensures) (c .before .before .match .keys3) in (
+      subst (Has (now (s .args .columns))) (sym (c .number-at3 .ensures)) (first-had (sound-is e (s .pre .2)) refl),
+      subst Tabled (sym (sum-slot (c .before))) (slot-tabled (slot-by (first-number a)) (names-tabled (s .pre .0) e)),
+    )
 
 -- the binders of a Count are held
 count-requires : tie.Need-has-sigil-binder-requires

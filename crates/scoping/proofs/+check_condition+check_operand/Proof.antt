@@ -232,8 +232,7 @@ pub +check-condition+check-operand-spec : {M : Type 1} → statement M
       a .children .0 .has,
       room-is (scoped-array _ _ a) (c .before .before .before .before .before .before .before .before .pre .1 .1),
     ))
-    (λ c κs. let s = c .before .before .before .before .before .before in
-    (
+    (λ c κs. let s = c .before .before .before .before .before .before in (
       (s .pre .1 .0 .0, s .pre .1 .0 .1),
       room-first _ _ (room-is (scoped-aggregate _ _ (gathers t (c .before)) refl (operand-arm t (c .before .before) refl) (enters t (c .before .before))) (s .pre .1 .1)),
     ))

@@ -12,7 +12,7 @@ use Rattle.together.proofs.bound.Tie as tie
 
 returns : tie.Need-returns
 unfolding meant bound
-returns c = 
+returns c =
     let within = c .before .before .before in
     let disjoint = within .before in
     let minus3 = disjoint .before in

@@ -10,7 +10,7 @@ use dogwood::extension::temporal::ast::Condition;
 use dogwood::extension::temporal::check::{
     check_condition, check_demands, check_leaf_closed, reject_arithmetic_unless_enabled,
 };
-use linked::records::{deep_by_terms, rule, tower, tower_over_all, Plan, LAYERS};
+use linked::records::{deep_by_terms, every_shape, rule, tower, tower_over_all, Plan, LAYERS};
 use linked::{Library, Proved};
 use plain::random::{record, Rng};
 
@@ -19,6 +19,8 @@ const RUNS: usize = 300;
 /// Of each record, to find the slowest.
 const TRIES: usize = 15;
 const RECORDS: usize = 200;
+/// Of a record of every shape: each kind of clause once.
+const CLAUSES: usize = 13;
 /// More than any of these lists has.
 const ROOM: usize = 65_536;
 const MOST_NANOSECONDS: f64 = 1e6;
@@ -58,6 +60,7 @@ fn main() -> ExitCode {
     say("large rules", &rules(&mut rng, &LARGE_RULES));
     say("small records at random", &at_random(&mut rng, 14, 18));
     say("large records at random", &at_random(&mut rng, 220, 240));
+    say("every shape, nothing to find", &shapes(&mut rng));
     let (label, subject) = slowest(&mut rng);
     let worst = [subject];
     say(&format!("the slowest found, {label}"), &worst);
@@ -71,6 +74,12 @@ fn main() -> ExitCode {
 fn rules(rng: &mut Rng, plans: &[Plan]) -> Vec<Subject> {
     (0..RECORDS)
         .map(|number| subject(rule(rng, plans[number % plans.len()])))
+        .collect()
+}
+
+fn shapes(rng: &mut Rng) -> Vec<Subject> {
+    (0..RECORDS)
+        .map(|number| subject(every_shape(rng, CLAUSES, number % 2 == 0)))
         .collect()
 }
 

@@ -61,12 +61,12 @@ fn clause(rng: &mut Rng, record: &mut Writer, name: u8) -> u16 {
     }
 }
 
-fn not_yet(record: &mut Writer, name: u8) -> u16 {
+pub fn not_yet(record: &mut Writer, name: u8) -> u16 {
     let happened = event(record, &[name]);
     record.node(&[0x12], &[happened], &[])
 }
 
-fn event(record: &mut Writer, names: &[u8]) -> u16 {
+pub fn event(record: &mut Writer, names: &[u8]) -> u16 {
     let mut arguments = record.list_end();
     for &name in names {
         let term = record.var(name);
@@ -75,4 +75,4 @@ fn event(record: &mut Writer, names: &[u8]) -> u16 {
     record.predicate(arguments)
 }
 
-const WINDOW: [u8; 2] = [60, 0];
+pub const WINDOW: [u8; 2] = [60, 0];
