@@ -15,17 +15,21 @@ use slots::has_sigil_binder;
 use slots::is_sigil;
 use slots::slot_name;
 use together::and_facts;
+use together::arith_facts;
 use together::bound;
 use together::compared;
+use together::gathered_marks;
 use together::join_facts;
 use together::loose;
 use together::naming;
 use together::nothing;
 use together::opaque;
+use together::opaque_aggregate;
 use together::or_facts;
 use together::refined;
 use together::searched;
 use together::since_facts;
+use together::timed;
 use vars::eq_restricted_var;
 ghost use mathlib.Core.Path.{_≡_};
 ghost use mathlib.Core.Bool.{_||_};
@@ -52,17 +56,17 @@ pub fn leaf_facts(columns: &[u16; 2049], i: NodeNo) -> Facts
             let slot = slot_in(a);
             let own = slot_name(slot);
             let sigil = is_sigil(slot);
-            naming(own, sigil, true)
+            timed(own, sigil)
         }
         0x20 => {
             let own = names::single(NameNo(lower(a)));
-            naming(own, false, false)
+            naming(own)
         }
-        0x1B => opaque(false),
-        0x1C => opaque(false),
-        0x25 => opaque(false),
-        0x26 => opaque(false),
-        0x2B => opaque(true),
+        0x1B => opaque(),
+        0x1C => opaque(),
+        0x25 => opaque(),
+        0x26 => opaque(),
+        0x2B => opaque_aggregate(),
         _ => nothing(),
     }
 }
@@ -85,16 +89,12 @@ fn gathered(
     let tied = names::within(own, body.restricted);
     let closed = names::is_empty(free);
     let none = names::empty();
+    let marks = gathered_marks(body.marks, met, skipped, unsummed | !tied, closed);
     Facts {
         free: free,
         restricted: none,
         need: need,
-        sigil: body.sigil,
-        hard: body.hard | !met,
-        broken: !skipped & (body.broken | (unsummed | !tied)),
-        binds: !skipped,
-        unclosed: !skipped & (body.unclosed | !closed),
-        computed: true,
+        marks: marks,
     }
 }
 
@@ -148,14 +148,14 @@ pub fn two_facts(columns: &[u16; 2049], rows: &[[u64; 7]], i: NodeNo, l: NodeNo,
     let kind = number_at(columns, KINDS, i);
     match kind {
         0x10 => and_facts(left, right),
-        0x11 => or_facts(left, right, false),
+        0x11 => or_facts(left, right),
         0x15 => since_facts(left, right),
         0x17 => {
             let op = lower(number_at(columns, FIRSTS, i));
             let side = eq_restricted_var(columns, op, l, r);
             compared(side, left, right)
         }
-        _ => or_facts(left, right, true),
+        _ => arith_facts(left, right),
     }
 }
 
@@ -167,10 +167,10 @@ pub fn list_facts(columns: &[u16; 2049], rows: &[[u64; 7]], i: NodeNo, list: Nod
     let terms = facts_at(rows, list);
     let kind = number_at(columns, KINDS, i);
     match kind {
-        0x18 => searched(terms, terms.restricted, false),
+        0x18 => searched(terms, terms.restricted),
         _ => {
             let none = names::empty();
-            searched(terms, none, terms.computed)
+            searched(terms, none)
         }
     }
 }

@@ -22,8 +22,8 @@ use Rattle.paper.proofs.Weights.{of-sort}
 use Rattle.trees.specs.Trees.{is-condition, is-term}
 use Rattle.trees.proofs.ByKind.{by-kind}
 use Rattle.paper.specs.Scoping.{binder-sigil}
-use Rattle.known.specs.Needs.{slot-in, need, hard, unfit, computed, arguments-computed, items-computed, broken, binds, unclosed}
-use Rattle.known.specs.Known.{Known, nothing, way, from-parts, parts-of, opaque, naming, both, join, searched, loose, refined, bound, gathered, and-known, or-known, since-known, compared, condition-known, term-known, arguments-known, items-known, known-of, own}
+use Rattle.known.specs.Needs.{slot-in, need, hard, unfit, computed, arguments-computed, items-computed, reckoned, broken, binds, unclosed}
+use Rattle.known.specs.Known.{Known, nothing, way, from-parts, parts-of, opaque, naming, both, join, searched, loose, refined, bound, gathered, and-known, or-known, arith-known, since-known, compared, condition-known, term-known, arguments-known, items-known, known-of, own}
 
 -- ---- putting facts together
 
@@ -154,16 +154,16 @@ unfolding items-computed items-known nothing join both term-known
 items-are-computed (no-item n) = refl
 items-are-computed (item n t l) = ap (_||_ (computed t)) (items-are-computed l)
 
-predicate-known : (n : NodeNo) (a : ℕ) (l : Arguments) → searched (arguments-known l) (arguments-known l .restricted) false ≡ condition-known (tree.Predicate n a l)
-unfolding searched condition-known free restricted need none holds-sigil hard broken binds unclosed
-predicate-known n a l = known-is (arguments-are-free l) (arguments-are-direct l) refl (arguments-are-sigils l) refl (arguments-are-computed l) refl refl refl
+predicate-known : (n : NodeNo) (a : ℕ) (l : Arguments) → searched (arguments-known l) (arguments-known l .restricted) ≡ condition-known (tree.Predicate n a l)
+unfolding searched condition-known free restricted need none holds-sigil hard broken binds unclosed reckoned
+predicate-known n a l = known-is (arguments-are-free l) (arguments-are-direct l) refl (arguments-are-sigils l) refl (arguments-are-computed l) refl refl (arguments-are-computed l)
 
-array-known : (n : NodeNo) (l : Items) → searched (items-known l) none (items-known l .computed) ≡ term-known (tree.Array n l)
+array-known : (n : NodeNo) (l : Items) → searched (items-known l) none ≡ term-known (tree.Array n l)
 unfolding searched term-known free about bare none need holds-sigil hard broken binds unclosed computed
 array-known n l = known-is (items-are-free l) refl refl (items-are-sigils l) refl (items-are-computed l) refl refl (items-are-computed l)
 
 refine-known : (n : NodeNo) (b : tree.Condition) (l : Arguments) → refined (condition-known b) (arguments-known l) ≡ condition-known (tree.Refine n b l)
-unfolding refined condition-known free restricted need holds-sigil hard broken binds unclosed
+unfolding refined condition-known free restricted need holds-sigil hard broken binds unclosed reckoned
 refine-known n b l =
     known-is (ap (_∪_ (free b)) (arguments-are-free l)) (ap (_∪_ (restricted b)) (arguments-are-direct l)) refl (ap (_||_ (holds-sigil b)) (arguments-are-sigils l))
     refl refl refl refl refl
@@ -171,9 +171,9 @@ refine-known n b l =
 -- ---- a node's tree
 
 pub planted-known : (t : ℕ → Tree) (n : NodeNo) (m : Node) → All (λ p. of-sort (p .0) (t (p .1)) ≡ true) (references m) → known-of (planted t n m) ≡ own t m
-unfolding planted known-of own way from-parts parts-of condition-known term-known arguments-known items-known free restricted about bare holds-sigil need hard broken binds unclosed computed and-known or-known since-known compared bound gathered unfit loose naming nothing opaque both
+unfolding planted known-of own way from-parts parts-of condition-known term-known arguments-known items-known free restricted about bare holds-sigil need hard broken binds unclosed computed reckoned and-known or-known arith-known since-known compared bound gathered unfit loose naming nothing opaque both
 planted-known t n (node.And l r) f = ap₂ and-known (sym (body-known _ (f .0))) (sym (body-known _ (f .1 .0)))
-planted-known t n (node.Or l r) f = ap₂ (λ (a b : Known). or-known a b false) (sym (body-known _ (f .0))) (sym (body-known _ (f .1 .0)))
+planted-known t n (node.Or l r) f = ap₂ or-known (sym (body-known _ (f .0))) (sym (body-known _ (f .1 .0)))
 planted-known t n (node.Not b) f = ap loose (sym (body-known _ (f .0)))
 planted-known t n (node.Formerly b w) f = sym (body-known _ (f .0))
 planted-known t n (node.Previous b w) f = sym (body-known _ (f .0))
@@ -181,7 +181,7 @@ planted-known t n (node.Since l r w) f = ap₂ since-known (sym (body-known _ (f
 planted-known t n (node.Exists s y b) f = ap (λ (a : Known). bound a s) (sym (body-known _ (f .0)))
 planted-known t n (node.Comparison o l r) f =
     ap₂ (compared (tied o (as-term (t (l .0))) (as-term (t (r .0))))) (sym (one-known _ (f .0))) (sym (one-known _ (f .1 .0)))
-planted-known t n (node.Predicate a l) f = sym (ap (λ (k : Known). searched k (k .restricted) false) (list-known _ (f .0)) ∙ predicate-known n a (as-arguments (t (l .0))))
+planted-known t n (node.Predicate a l) f = sym (ap (λ (k : Known). searched k (k .restricted)) (list-known _ (f .0)) ∙ predicate-known n a (as-arguments (t (l .0))))
 planted-known t n (node.Refine b l) f = sym (ap₂ refined (body-known _ (f .0)) (list-known _ (f .1 .0)) ∙ refine-known n (as-condition (t (b .0))) (as-arguments (t (l .0))))
 planted-known t n (node.Tp s) f = refl
 planted-known t n (node.Call y) f = refl
@@ -193,8 +193,8 @@ planted-known t n (node.ScopeField y) f = refl
 planted-known t n (node.ContextField y) f = refl
 planted-known t n (node.ParamRef k) f = refl
 planted-known t n (node.BinderRef k) f = refl
-planted-known t n (node.Array l) f = sym (ap (λ (k : Known). searched k none (k .computed)) (row-known _ (f .0)) ∙ array-known n (as-items (t (l .0))))
-planted-known t n (node.Arith o l r) f = ap₂ (λ (a b : Known). or-known a b true) (sym (one-known _ (f .0))) (sym (one-known _ (f .1 .0)))
+planted-known t n (node.Array l) f = sym (ap (λ (k : Known). searched k none) (row-known _ (f .0)) ∙ array-known n (as-items (t (l .0))))
+planted-known t n (node.Arith o l r) f = ap₂ arith-known (sym (one-known _ (f .0))) (sym (one-known _ (f .1 .0)))
 planted-known t n (node.Sum s l b) f =
     let list = as-binders (t (l .0)) in
     ap (λ (a : Known). gathered a list (is-sigil s || binder-sigil list) (slot-in s (outside (binder-names list)))) (sym (body-known _ (f .1 .0)))

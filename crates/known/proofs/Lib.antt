@@ -7,5 +7,5 @@ pub mod RowLaws
 pub mod Covers
 pub mod MetLaws
 pub mod SoundLaws
-pub mod Marked
 pub mod WayLaws
+pub mod MarkLaws

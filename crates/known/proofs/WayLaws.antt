@@ -20,7 +20,7 @@ use Rattle.memory.proofs.Unnamed.{conditions, terms, cells, Away, Rest, rest-aw
 use Rattle.record.specs.Stored.{Has}
 use Rattle.known.specs.declared.Parts.{Parts}
 use Rattle.known.specs.declared.Parts.the-variants.{Leaf, One, Two, List as Listed, Then}
-use Rattle.known.specs.Known.{Known, known-of, nothing, join, searched, or-known, parts-of, Way, alone, over, between, way, from-parts, own}
+use Rattle.known.specs.Known.{Known, known-of, nothing, join, searched, arith-known, parts-of, Way, alone, over, between, way, from-parts, own}
 use Rattle.known.specs.Rows.{node-of}
 use Rattle.known.proofs.PartLaws.{known-arm}
 
@@ -127,10 +127,10 @@ abbrev pub two-kinds : List ℕ
 two-kinds = 0x10 ∷ 0x11 ∷ 0x15 ∷ 0x17 ∷ []
 
 pub other-two : (t : ℕ → Tree) (l r : NodeNo) (k : ℕ) (xs : List ℕ) → Rest two-kinds k (Unit {0}) → Two l r ≡ parts-of (node-said (announced k) xs)
-    → way t (node-said (announced k) xs) ≡ between (λ a b. or-known a b true)
+    → way t (node-said (announced k) xs) ≡ between arith-known
 unfolding node-said parts-of way Away is-two
 other-two t l r k xs rest =
-    by-number (λ m. Two l r ≡ parts-of m → way t m ≡ between (λ a b. or-known a b true)) two-kinds k xs
+    by-number (λ m. Two l r ≡ parts-of m → way t m ≡ between arith-known) two-kinds k xs
     ((λ a q. absurd (a .0 refl)), ((λ a q. absurd (a .1 .0 refl)), ((λ a q. absurd (true≢false (ap is-two q))), ((λ a q. absurd (true≢false (ap is-two q))), ((λ a q. absurd (true≢false (ap is-two q))), ((λ a q. absurd (a .1 .1 .0 refl)), ((λ a q. absurd (true≢false (ap is-two q))), ((λ a q. absurd (a .1 .1 .1 .0 refl)), ((λ a q. absurd (true≢false (ap is-two q))), ((λ a q. absurd (true≢false (ap is-two q))), ((λ a q. absurd (true≢false (ap is-two q))), ((λ a q. absurd (true≢false (ap is-two q))), ((λ a q. absurd (true≢false (ap is-two q))), ((λ a q. absurd (true≢false (ap is-two q))), ((λ a q. absurd (true≢false (ap is-two q))), ((λ a q. absurd (true≢false (ap is-two q))), ((λ a q. absurd (true≢false (ap is-two q))), ((λ a q. absurd (true≢false (ap is-two q))), ((λ a q. absurd (true≢false (ap is-two q))), ((λ a q. absurd (true≢false (ap is-two q))), ((λ a q. absurd (true≢false (ap is-two q))), ((λ a q. refl), ((λ a q. absurd (true≢false (ap is-two q))), ((λ a q. absurd (true≢false (ap is-two q))), ((λ a q. absurd (true≢false (ap is-two q))), ((λ a q. absurd (true≢false (ap is-two q))), ((λ a q. absurd (true≢false (ap is-two q))), ((λ a q. absurd (true≢false (ap is-two q))), tt))))))))))))))))))))))))))))
     (λ q. absurd (true≢false (ap is-two q)))
     (rest-away two-kinds k (Unit {0}) rest .1)
@@ -146,10 +146,10 @@ abbrev pub list-kinds : List ℕ
 list-kinds = 0x18 ∷ []
 
 pub other-list : (t : ℕ → Tree) (l : NodeNo) (k : ℕ) (xs : List ℕ) → Rest list-kinds k (Unit {0}) → Listed l ≡ parts-of (node-said (announced k) xs)
-    → way t (node-said (announced k) xs) ≡ over (λ a. searched a none (a .computed))
+    → way t (node-said (announced k) xs) ≡ over (λ a. searched a none)
 unfolding node-said parts-of way Away is-list
 other-list t l k xs rest =
-    by-number (λ m. Listed l ≡ parts-of m → way t m ≡ over (λ a. searched a none (a .computed))) list-kinds k xs
+    by-number (λ m. Listed l ≡ parts-of m → way t m ≡ over (λ a. searched a none)) list-kinds k xs
     ((λ a q. absurd (true≢false (ap is-list q))), ((λ a q. absurd (true≢false (ap is-list q))), ((λ a q. absurd (true≢false (ap is-list q))), ((λ a q. absurd (true≢false (ap is-list q))), ((λ a q. absurd (true≢false (ap is-list q))), ((λ a q. absurd (true≢false (ap is-list q))), ((λ a q. absurd (true≢false (ap is-list q))), ((λ a q. absurd (true≢false (ap is-list q))), ((λ a q. absurd (a .0 refl)), ((λ a q. absurd (true≢false (ap is-list q))), ((λ a q. absurd (true≢false (ap is-list q))), ((λ a q. absurd (true≢false (ap is-list q))), ((λ a q. absurd (true≢false (ap is-list q))), ((λ a q. absurd (true≢false (ap is-list q))), ((λ a q. absurd (true≢false (ap is-list q))), ((λ a q. absurd (true≢false (ap is-list q))), ((λ a q. absurd (true≢false (ap is-list q))), ((λ a q. absurd (true≢false (ap is-list q))), ((λ a q. absurd (true≢false (ap is-list q))), ((λ a q. absurd (true≢false (ap is-list q))), ((λ a q. refl), ((λ a q. absurd (true≢false (ap is-list q))), ((λ a q. absurd (true≢false (ap is-list q))), ((λ a q. absurd (true≢false (ap is-list q))), ((λ a q. absurd (true≢false (ap is-list q))), ((λ a q. absurd (true≢false (ap is-list q))), ((λ a q. absurd (true≢false (ap is-list q))), ((λ a q. absurd (true≢false (ap is-list q))), tt))))))))))))))))))))))))))))
     (λ q. absurd (true≢false (ap is-list q)))
     (rest-away list-kinds k (Unit {0}) rest .1)

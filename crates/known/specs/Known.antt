@@ -15,7 +15,7 @@ use Rattle.paper.specs.Tree.Arguments.{no-argument, argument}
 use Rattle.paper.specs.Tree.Items.{no-item, item}
 use Rattle.paper.specs.FreeAndRestricted.{named, is-sigil, binder-names, free, term-free, bare, about, tied, tied-name, restricted, holds-sigil, term-sigil}
 use Rattle.paper.specs.Scoping.{binder-sigil}
-use Rattle.known.specs.Needs.{slot-in, binder-in, has-some, owes, need, term-need, hard, term-hard, computed, broken, term-broken, binds, term-binds, unclosed, term-unclosed}
+use Rattle.known.specs.Needs.{slot-in, binder-in, has-some, owes, need, term-need, hard, term-hard, computed, reckoned, broken, term-broken, binds, term-binds, unclosed, term-unclosed}
 use Rattle.known.specs.declared.Parts.{Parts}
 use Rattle.known.specs.declared.Parts.the-variants.{Leaf, One, Two, List, Then}
 
@@ -47,8 +47,8 @@ naming own sigil binds =
     record { free = own; restricted = own; need = none; sigil = sigil; hard = false; broken = false; binds = binds; unclosed = false; computed = false }
 
 -- both, restricting and needing these names
-unfoldable pub both : Known → Known → Set → Set → Bool → Known
-both a b given needs computed =
+unfoldable pub both : Known → Known → Set → Set → Known
+both a b given needs =
     record {
       free = a .free ∪ b .free;
       restricted = given;
@@ -58,17 +58,17 @@ both a b given needs computed =
       broken = a .broken || b .broken;
       binds = a .binds || b .binds;
       unclosed = a .unclosed || b .unclosed;
-      computed = computed;
+      computed = a .computed || b .computed;
     }
 
 -- the terms of a list, one after the other
 unfoldable pub join : Known → Known → Known
-join a b = both a b (a .restricted ∪ b .restricted) (a .need ∪ b .need) (a .computed || b .computed)
+join a b = both a b (a .restricted ∪ b .restricted) (a .need ∪ b .need)
 
 -- what is searched and not entered, restricting these names
-unfoldable pub searched : Known → Set → Bool → Known
-searched a given computed =
-    record { free = a .free; restricted = given; need = none; sigil = a .sigil; hard = false; broken = a .computed; binds = false; unclosed = false; computed = computed }
+unfoldable pub searched : Known → Set → Known
+searched a given =
+    record { free = a .free; restricted = given; need = none; sigil = a .sigil; hard = false; broken = a .computed; binds = false; unclosed = false; computed = a .computed }
 
 -- what restricts nothing, and owes all that is free
 unfoldable pub loose : Known → Known
@@ -133,7 +133,7 @@ condition-known c =
       broken = broken c;
       binds = binds c;
       unclosed = unclosed c;
-      computed = false;
+      computed = reckoned c;
     }
 
 unfoldable pub term-known : Term → Known
@@ -209,17 +209,31 @@ nodes-of (Then b l) = b .0 ∷ l .0 ∷ []
 
 -- on the right of And what the left restricts is tied, and on the left of Since what the right does
 unfoldable pub and-known : Known → Known → Known
-and-known a b = both a b (a .restricted ∪ b .restricted) (a .need ∪ (b .need ∖ a .restricted)) false
+and-known a b = both a b (a .restricted ∪ b .restricted) (a .need ∪ (b .need ∖ a .restricted))
 
 unfoldable pub since-known : Known → Known → Known
-since-known a b = both a b (b .restricted) (b .need ∪ ((a .need ∪ a .free) ∖ b .restricted)) false
+since-known a b = both a b (b .restricted) (b .need ∪ ((a .need ∪ a .free) ∖ b .restricted))
 
--- Or, and arithmetic, which is computed
-unfoldable pub or-known : Known → Known → Bool → Known
-or-known a b computed = both a b none (a .need ∪ b .need) computed
+unfoldable pub or-known : Known → Known → Known
+or-known a b = both a b none (a .need ∪ b .need)
+
+-- arithmetic
+unfoldable pub arith-known : Known → Known → Known
+arith-known a b =
+    record {
+      free = a .free ∪ b .free;
+      restricted = none;
+      need = a .need ∪ b .need;
+      sigil = a .sigil || b .sigil;
+      hard = a .hard || b .hard;
+      broken = a .broken || b .broken;
+      binds = a .binds || b .binds;
+      unclosed = a .unclosed || b .unclosed;
+      computed = true;
+    }
 
 unfoldable pub compared : Tied → Known → Known → Known
-compared side a b = both a b (tied-name side) (owes side (a .free) (b .free) ∪ (a .need ∪ b .need)) false
+compared side a b = both a b (tied-name side) (owes side (a .free) (b .free) ∪ (a .need ∪ b .need))
 
 -- how the facts of a node come from those of its parts
 pub data Way : Type 0 where
@@ -240,14 +254,14 @@ module _ (t : ℕ → Tree) where
 
   unfoldable pub way : Node → Way
   way (node.And l r) = between and-known
-  way (node.Or l r) = between (λ a b. or-known a b false)
+  way (node.Or l r) = between or-known
   way (node.Not b) = over loose
   way (node.Formerly b w) = over (λ a. a)
   way (node.Previous b w) = over (λ a. a)
   way (node.Since l r w) = between since-known
   way (node.Exists s y b) = over (λ a. bound a s)
   way (node.Comparison o l r) = between (compared (tied o (term l) (term r)))
-  way (node.Predicate a l) = over (λ a. searched a (a .restricted) false)
+  way (node.Predicate a l) = over (λ a. searched a (a .restricted))
   way (node.Refine b l) = between refined
   way (node.Tp s) = alone (naming (named s) (is-sigil s) true)
   way (node.Call y) = alone (opaque false)
@@ -259,8 +273,8 @@ module _ (t : ℕ → Tree) where
   way (node.ContextField y) = alone nothing
   way (node.ParamRef k) = alone (opaque false)
   way (node.BinderRef k) = alone (opaque false)
-  way (node.Array l) = over (λ a. searched a none (a .computed))
-  way (node.Arith o l r) = between (λ a b. or-known a b true)
+  way (node.Array l) = over (λ a. searched a none)
+  way (node.Arith o l r) = between arith-known
   way (node.Sum s l b) = over (λ a. gathered a (list l) (is-sigil s || binder-sigil (list l)) (slot-in s (outside (binder-names (list l)))))
   way (node.Count l b) = over (λ a. gathered a (list l) (binder-sigil (list l)) false)
   way (node.AggregateCall y) = alone (opaque true)

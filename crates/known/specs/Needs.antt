@@ -119,6 +119,20 @@ unfoldable pub arguments-computed : Arguments → Bool
 arguments-computed (no-argument n) = false
 arguments-computed (argument n f t l) = computed t || arguments-computed l
 
+-- of a condition: whether an argument or an operand of it is
+unfoldable pub reckoned : Condition → Bool
+reckoned (And n l r) = reckoned l || reckoned r
+reckoned (Or n l r) = reckoned l || reckoned r
+reckoned (Not n b) = reckoned b
+reckoned (Past n k b w) = reckoned b
+reckoned (Since n l r w) = reckoned l || reckoned r
+reckoned (Exists n s y b) = reckoned b
+reckoned (Comparison n o l r) = computed l || computed r
+reckoned (Predicate n a l) = arguments-computed l
+reckoned (Refine n b l) = reckoned b
+reckoned (Tp n s) = false
+reckoned (Opaque n k y) = false
+
 -- an aggregate's own 24, 26 and 27, whatever is in scope: a summed name that no binder has, or a binder that the body does not restrict. One that is not free
 -- is not restricted either.
 unfoldable pub unfit : Slot → Binders → Condition → Bool

@@ -1,59 +1,53 @@
 -- When a row holds what is known of its node, when rows do for all nodes, and how they are changed. Assumes nothing: these are definitions.
 use mathlib.Core.Path.{_≡_}
 use mathlib.Core.List.{List, [], List·Memᴰ}
-use Prim.Native.Nat.{ℕ, _/_, _%_, _<_, _≤_}
+use Prim.Native.Nat.{ℕ, _<_, _≤_}
 use mathlib.Core.Bool.{Bool, true, _||_}
-use lib.Dec.{eqb}
 use lib.ListN.{length, getD, set}
 use Rattle.paper.specs.declared.Node.{Node}
 use Rattle.paper.specs.declared.Node.the-variants.{ListEnd}
 use Rattle.paper.specs.Record.{Sort}
 use Rattle.paper.specs.Shape.{references, names-in}
 use Rattle.paper.proofs.Walks.{All}
-use Rattle.names.specs.Words.{mem}
+use Rattle.names.specs.Words.{bit, mem}
 use Rattle.record.specs.Stored.{held, Has}
 use Rattle.trees.specs.Trees.{tree-of, is-condition, is-term}
 use Rattle.known.specs.Known.{Known, known-of, parts-of, nodes-of}
 use Rattle.known.specs.declared.Facts.{Facts}
 
--- what facts in words say
+-- what facts in words say: a mark is a bit of the last word
 unfoldable pub meant : Facts → Known
 meant f =
     record {
       free = mem (f .free);
       restricted = mem (f .restricted);
       need = mem (f .need);
-      sigil = f .sigil;
-      hard = f .hard;
-      broken = f .broken;
-      binds = f .binds;
-      unclosed = f .unclosed;
-      computed = f .computed;
+      sigil = bit (f .marks) 0;
+      hard = bit (f .marks) 1;
+      broken = bit (f .marks) 2;
+      binds = bit (f .marks) 3;
+      unclosed = bit (f .marks) 4;
+      computed = bit (f .marks) 5;
     }
 
--- the facts in a row: two words for each set, and a word whose lowest bits are the marks
+-- a word whose bits are these marks
+pub record Marked (word : ℕ) (sigil hard broken binds unclosed computed : Bool) : Type 0 where
+  pub sigils : bit word 0 ≡ sigil
+  pub hards : bit word 1 ≡ hard
+  pub brokens : bit word 2 ≡ broken
+  pub bindings : bit word 3 ≡ binds
+  pub unclosings : bit word 4 ≡ unclosed
+  pub computings : bit word 5 ≡ computed
+
+-- the facts in a row: two words for each set, and one of marks
 unfoldable pub facts-in : List ℕ → Facts
 facts-in row =
     record {
       free = record { lo = getD row 0 0; hi = getD row 1 0 };
       restricted = record { lo = getD row 2 0; hi = getD row 3 0 };
       need = record { lo = getD row 4 0; hi = getD row 5 0 };
-      sigil = eqb (getD row 6 0 % 2) 1;
-      hard = eqb (getD row 6 0 / 2 % 2) 1;
-      broken = eqb (getD row 6 0 / 4 % 2) 1;
-      binds = eqb (getD row 6 0 / 8 % 2) 1;
-      unclosed = eqb (getD row 6 0 / 16 % 2) 1;
-      computed = eqb (getD row 6 0 / 32 % 2) 1;
+      marks = getD row 6 0;
     }
-
--- a word with the marks of these facts
-pub record Marks (f : Facts) (word : ℕ) : Type 0 where
-  pub sigil : eqb (word % 2) 1 ≡ f .sigil
-  pub hard : eqb (word / 2 % 2) 1 ≡ f .hard
-  pub broken : eqb (word / 4 % 2) 1 ≡ f .broken
-  pub binds : eqb (word / 8 % 2) 1 ≡ f .binds
-  pub unclosed : eqb (word / 16 % 2) 1 ≡ f .unclosed
-  pub computed : eqb (word / 32 % 2) 1 ≡ f .computed
 
 abbrev pub facts-at : List (List ℕ) → ℕ → Facts
 facts-at rows k = facts-in (getD rows k [])

@@ -39,10 +39,10 @@ digits-by op f p q r s =
     (digit (λ y. eqb (op 0 y) 1 ≡ f false (eqb y 1)) p q)
     (digit (λ y. eqb (op 1 y) 1 ≡ f true (eqb y 1)) r s)
 
-bit-or : (a b k : ℕ) → bit (bitOr a b) k ≡ (bit a k || bit b k)
+pub bit-or : (a b k : ℕ) → bit (bitOr a b) k ≡ (bit a k || bit b k)
 bit-or = bit-op bitOr _||_ or-shr or-mod (digits-by bitOr _||_ refl refl refl refl)
 
-bit-and : (a b k : ℕ) → bit (bitAnd a b) k ≡ (bit a k && bit b k)
+pub bit-and : (a b k : ℕ) → bit (bitAnd a b) k ≡ (bit a k && bit b k)
 bit-and = bit-op bitAnd _&&_ and-shr and-mod (digits-by bitAnd _&&_ refl refl refl refl)
 
 apart : Bool → Bool → Bool

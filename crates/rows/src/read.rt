@@ -1,5 +1,10 @@
 // What the walks ask, read from a node's row.
 use crate::row::facts_at;
+use known::BINDS;
+use known::BROKEN;
+use known::HARD;
+use known::SIGIL;
+use known::UNCLOSED;
 use names::Names;
 use paper::NodeNo;
 ghost use mathlib.Core.Path.{_≡_};
@@ -43,7 +48,7 @@ pub fn body_has_sigil(columns: &[u16; 2049], rows: &[[u64; 7]], i: NodeNo) -> bo
     ensures { λ r. ⌜ r ≡ holds-sigil (condition-of (now (columns .entry)) (i .0)) ⌝ }
 {
     let f = facts_at(rows, i);
-    f.sigil
+    f.marks / SIGIL % 2 == 1
 }
 
 // Whether no demand below is unmet, with these names tied. A walk goes no further then; it may say no where nothing is found.
@@ -54,7 +59,7 @@ pub fn is_met(columns: &[u16; 2049], rows: &[[u64; 7]], i: NodeNo, tied: Names) 
     let f = facts_at(rows, i);
     let need = f.need;
     let unmet = names::minus(need, tied);
-    !f.hard & names::is_empty(unmet)
+    !(f.marks / HARD % 2 == 1) & names::is_empty(unmet)
 }
 
 // Whether no rule of scoping is broken below, with these words reserved and these names in scope.
@@ -71,5 +76,8 @@ pub fn is_sound(
     let f = facts_at(rows, i);
     let free = f.free;
     let unknown = names::minus(free, scope);
-    !f.broken & ((!f.binds | names::is_empty(words)) & (!f.unclosed | names::is_empty(unknown)))
+    let broken = f.marks / BROKEN % 2 == 1;
+    let binds = f.marks / BINDS % 2 == 1;
+    let unclosed = f.marks / UNCLOSED % 2 == 1;
+    !broken & ((!binds | names::is_empty(words)) & (!unclosed | names::is_empty(unknown)))
 }

@@ -1,16 +1,24 @@
 // How the facts of parts are put together.
+use known::BINDS;
+use known::BROKEN;
+use known::COMPUTED;
 use known::Facts;
+use known::HARD;
+use known::SIGIL;
+use known::UNCLOSED;
 use names::Names;
 use paper::Slot;
 use paper::Tied;
 use slots::slot_name;
 ghost use mathlib.Core.Path.{_≡_};
-ghost use Rattle.names.specs.Words.{mem};
+ghost use mathlib.Core.Bool.{true, false, not, _||_, _&&_};
+ghost use Rattle.paper.specs.Record.{pick};
+ghost use Rattle.names.specs.Words.{bit, mem};
 ghost use Rattle.paper.specs.FreeAndRestricted.{tied-name};
 ghost use Rattle.trees.specs.Terms.{Tabled, TabledTied};
 ghost use Rattle.known.specs.Needs.{owes};
-ghost use Rattle.known.specs.Rows.{meant};
-ghost use Rattle.known.specs.Known.{nothing as no-facts, opaque as opaque-facts, naming as named-facts, both as both-facts, join, and-known, or-known, since-known, compared as compared-facts, searched as searched-facts, loose as loose-facts, refined as refined-facts, bound as bound-facts};
+ghost use Rattle.known.specs.Rows.{meant, Marked};
+ghost use Rattle.known.specs.Known.{nothing as no-facts, opaque as opaque-facts, naming as named-facts, both as both-facts, join, and-known, or-known, arith-known, since-known, compared as compared-facts, searched as searched-facts, loose as loose-facts, refined as refined-facts, bound as bound-facts};
 
 pub fn nothing() -> Facts
     ensures { λ r. ⌜ meant r ≡ no-facts ⌝ }
@@ -20,66 +28,89 @@ pub fn nothing() -> Facts
         free: none,
         restricted: none,
         need: none,
-        sigil: false,
-        hard: false,
-        broken: false,
-        binds: false,
-        unclosed: false,
-        computed: false,
+        marks: 0,
     }
 }
 
 // What holds a sigil.
-pub fn opaque(computed: bool) -> Facts
-    ensures { λ r. ⌜ meant r ≡ opaque-facts computed ⌝ }
+pub fn opaque() -> Facts
+    ensures { λ r. ⌜ meant r ≡ opaque-facts false ⌝ }
 {
     let none = names::empty();
     Facts {
         free: none,
         restricted: none,
         need: none,
-        sigil: true,
-        hard: false,
-        broken: false,
-        binds: false,
-        unclosed: false,
-        computed: computed,
+        marks: SIGIL,
     }
 }
 
-// Names that are free and restricted.
-pub fn naming(own: Names, sigil: bool, binds: bool) -> Facts
-    ensures { λ r. ⌜ meant r ≡ named-facts (mem own) sigil binds ⌝ }
+// An aggregate that holds a sigil, and is computed: both marks.
+pub fn opaque_aggregate() -> Facts
+    ensures { λ r. ⌜ meant r ≡ opaque-facts true ⌝ }
+{
+    let none = names::empty();
+    Facts {
+        free: none,
+        restricted: none,
+        need: none,
+        marks: 33,
+    }
+}
+
+// A variable: a name that is free, and that it is.
+pub fn naming(own: Names) -> Facts
+    ensures { λ r. ⌜ meant r ≡ named-facts (mem own) false false ⌝ }
 {
     let none = names::empty();
     Facts {
         free: own,
         restricted: own,
         need: none,
-        sigil: sigil,
-        hard: false,
-        broken: false,
-        binds: binds,
-        unclosed: false,
-        computed: false,
+        marks: 0,
+    }
+}
+
+// A mark, where it is one.
+fn mark(yes: bool, value: u64) -> u64
+    ensures { λ r. ⌜ r ≡ pick yes value 0 ⌝ }
+{
+    if yes { value } else { 0 }
+}
+
+fn bound_marks(marks: u64, met: bool, tied: bool) -> u64
+    ensures { λ r. ⌜ Marked r (bit marks 0) (bit marks 1 || not met) (bit marks 2 || (not (bit marks 0) && not tied)) true (bit marks 4) (bit marks 5) ⌝ }
+{
+    let sigil = marks / SIGIL % 2 == 1;
+    let hard = mark(!met, HARD);
+    let broken = mark(!sigil & !tied, BROKEN);
+    ((marks | BINDS) | hard) | broken
+}
+
+// A tp: its name is free and restricted.
+pub fn timed(own: Names, sigil: bool) -> Facts
+    ensures { λ r. ⌜ meant r ≡ named-facts (mem own) sigil true ⌝ }
+{
+    let none = names::empty();
+    let marks = mark(sigil, SIGIL);
+    Facts {
+        free: own,
+        restricted: own,
+        need: none,
+        marks: BINDS | marks,
     }
 }
 
 // Both, restricting and needing these names.
-fn both(one: Facts, other: Facts, given: Names, needs: Names, computed: bool) -> Facts
-    ensures { λ r. ⌜ meant r ≡ both-facts (meant one) (meant other) (mem given) (mem needs) computed ⌝ }
+fn both(one: Facts, other: Facts, given: Names, needs: Names) -> Facts
+    ensures { λ r. ⌜ meant r ≡ both-facts (meant one) (meant other) (mem given) (mem needs) ⌝ }
 {
     let free = names::union(one.free, other.free);
     Facts {
         free: free,
         restricted: given,
         need: needs,
-        sigil: one.sigil | other.sigil,
-        hard: one.hard | other.hard,
-        broken: one.broken | other.broken,
-        binds: one.binds | other.binds,
-        unclosed: one.unclosed | other.unclosed,
-        computed: computed,
+        marks: one.marks | other.marks,
     }
 }
 
@@ -89,7 +120,7 @@ pub fn join_facts(one: Facts, other: Facts) -> Facts
 {
     let given = names::union(one.restricted, other.restricted);
     let needs = names::union(one.need, other.need);
-    both(one, other, given, needs, one.computed | other.computed)
+    both(one, other, given, needs)
 }
 
 // And: on its right what its left restricts is tied.
@@ -99,16 +130,31 @@ pub fn and_facts(left: Facts, right: Facts) -> Facts
     let given = names::union(left.restricted, right.restricted);
     let eased = names::minus(right.need, left.restricted);
     let needs = names::union(left.need, eased);
-    both(left, right, given, needs, false)
+    both(left, right, given, needs)
 }
 
-// Or, and arithmetic, which is computed.
-pub fn or_facts(left: Facts, right: Facts, computed: bool) -> Facts
-    ensures { λ r. ⌜ meant r ≡ or-known (meant left) (meant right) computed ⌝ }
+// Or: it restricts nothing.
+pub fn or_facts(left: Facts, right: Facts) -> Facts
+    ensures { λ r. ⌜ meant r ≡ or-known (meant left) (meant right) ⌝ }
 {
     let given = names::empty();
     let needs = names::union(left.need, right.need);
-    both(left, right, given, needs, computed)
+    both(left, right, given, needs)
+}
+
+// Arithmetic, which is computed.
+pub fn arith_facts(left: Facts, right: Facts) -> Facts
+    ensures { λ r. ⌜ meant r ≡ arith-known (meant left) (meant right) ⌝ }
+{
+    let free = names::union(left.free, right.free);
+    let given = names::empty();
+    let needs = names::union(left.need, right.need);
+    Facts {
+        free: free,
+        restricted: given,
+        need: needs,
+        marks: (left.marks | right.marks) | COMPUTED,
+    }
 }
 
 // Since: on its left, which owes all that is free there, what its right restricts is tied.
@@ -118,7 +164,7 @@ pub fn since_facts(left: Facts, right: Facts) -> Facts
     let owed = names::union(left.need, left.free);
     let eased = names::minus(owed, right.restricted);
     let needs = names::union(right.need, eased);
-    both(left, right, right.restricted, needs, false)
+    both(left, right, right.restricted, needs)
 }
 
 // The name that an equality ties.
@@ -153,25 +199,28 @@ pub fn compared(side: Tied, left: Facts, right: Facts) -> Facts
     let own = owed(side, left.free, right.free);
     let below = names::union(left.need, right.need);
     let needs = names::union(own, below);
-    both(left, right, given, needs, false)
+    both(left, right, given, needs)
+}
+
+fn searched_marks(marks: u64) -> u64
+    ensures { λ r. ⌜ Marked r (bit marks 0) false (bit marks 5) false false (bit marks 5) ⌝ }
+{
+    let broken = mark(marks / COMPUTED % 2 == 1, BROKEN);
+    (marks & 33) | broken
 }
 
 // What is searched and not entered, restricting these names.
-pub fn searched(part: Facts, given: Names, computed: bool) -> Facts
-    ensures { λ r. ⌜ meant r ≡ searched-facts (meant part) (mem given) computed ⌝ }
+pub fn searched(part: Facts, given: Names) -> Facts
+    ensures { λ r. ⌜ meant r ≡ searched-facts (meant part) (mem given) ⌝ }
 {
     let free = part.free;
     let none = names::empty();
+    let marks = searched_marks(part.marks);
     Facts {
         free: free,
         restricted: given,
         need: none,
-        sigil: part.sigil,
-        hard: false,
-        broken: part.computed,
-        binds: false,
-        unclosed: false,
-        computed: computed,
+        marks: marks,
     }
 }
 
@@ -186,12 +235,7 @@ pub fn loose(part: Facts) -> Facts
         free: free,
         restricted: none,
         need: needs,
-        sigil: part.sigil,
-        hard: part.hard,
-        broken: part.broken,
-        binds: part.binds,
-        unclosed: part.unclosed,
-        computed: part.computed,
+        marks: part.marks,
     }
 }
 
@@ -206,12 +250,7 @@ pub fn refined(base: Facts, fields: Facts) -> Facts
         free: free,
         restricted: restricted,
         need: need,
-        sigil: base.sigil | fields.sigil,
-        hard: base.hard,
-        broken: base.broken,
-        binds: base.binds,
-        unclosed: base.unclosed,
-        computed: base.computed,
+        marks: base.marks | (fields.marks & SIGIL),
     }
 }
 
@@ -226,15 +265,25 @@ pub fn bound(body: Facts, slot: Slot) -> Facts
     let need = names::minus(body.need, own);
     let met = names::disjoint(own, body.need);
     let tied = names::within(own, body.restricted);
+    let marks = bound_marks(body.marks, met, tied);
     Facts {
         free: free,
         restricted: restricted,
         need: need,
-        sigil: body.sigil,
-        hard: body.hard | !met,
-        broken: body.broken | (!body.sigil & !tied),
-        binds: true,
-        unclosed: body.unclosed,
-        computed: body.computed,
+        marks: marks,
     }
+}
+
+// The marks of an aggregate: whether its binders are met and it is skipped, whether one of them or the summed name is wrong, and whether it is closed.
+pub fn gathered_marks(marks: u64, met: bool, skipped: bool, wrong: bool, closed: bool) -> u64
+    ensures { λ r. ⌜ Marked r (bit marks 0) (bit marks 1 || not met) (not skipped && (bit marks 2 || wrong)) (not skipped) (not skipped && (bit marks 4 || not closed)) true ⌝ }
+{
+    let hard = mark(!met, HARD);
+    let base = ((marks & 3) | COMPUTED) | hard;
+    if skipped {
+        return base;
+    }
+    let broken = mark(wrong, BROKEN);
+    let unclosed = mark(!closed, UNCLOSED);
+    (((base | (marks & 20)) | BINDS) | broken) | unclosed
 }

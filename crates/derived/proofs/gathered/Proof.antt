@@ -17,7 +17,8 @@ use Rattle.derived.proofs.gathered.Tie as tie
 returns : tie.Need-returns
 unfolding meant gathered has-some has-none
 returns c =
-    let empty = c .before .before .before in
+    let m = c .gathered-marks .ensures in
+    let empty = c .before in
     let closed = empty .before in
     let within = closed .before in
     let disjoint = within .before in
@@ -28,6 +29,12 @@ returns c =
     let names = own .binder-names .ensures in
     let list = binders-of (now (s .columns)) (s .list .0) in
     rw (
+      m .sigils,
+      m .hards,
+      m .brokens,
+      m .bindings,
+      m .unclosings,
+      m .computings,
       binder-said list _ (subst (λ (a : Set). Apart (disjoint .disjoint .result) a (mem (s .body .need))) names (disjoint .disjoint .ensures)),
       binder-said list _ (subst (λ (a : Set). Apart (within .within .result) a (outside (mem (s .body .restricted)))) names (within .within .ensures)),
       closed .is-empty .ensures,
@@ -39,4 +46,4 @@ returns c =
 
 pub gathered-spec : {M : Type 1} → statement M
 gathered-spec =
-    tie.close (tie.spec (λ c κs. c .pre) (λ c κs. tt) (λ c κs. tt) (λ c κs. tt) (λ c κs. tt) (λ c κs. tt) (λ c κs. tt) returns)
+    tie.close (tie.spec (λ c κs. c .pre) (λ c κs. tt) (λ c κs. tt) (λ c κs. tt) (λ c κs. tt) (λ c κs. tt) (λ c κs. tt) (λ c κs. tt) returns)

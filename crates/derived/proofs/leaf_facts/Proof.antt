@@ -52,7 +52,7 @@ tp c =
     let s = k .before in
     let e = said (s .pre .0) (k .number-at .ensures) (m .match .keys1) in
     let is = slot .slot-in .ensures ∙ ap (λ (x : ℕ). slot-of (x % 256) (x / 256)) (a .number-at2 .ensures) in
-    c .naming .ensures ∙ ap₂ (λ (n : Set) b. naming n b true) (name .slot-name .ensures) (sigil .is-sigil .ensures)
+    c .timed .ensures ∙ ap₂ (λ (n : Set) b. naming n b true) (name .slot-name .ensures) (sigil .is-sigil .ensures)
     ∙ ap (λ (x : Slot). naming (named x) (is-sigil x) true) is ∙ sym (ap (own (tree-of (now (s .args .columns)))) e)
 
 var : tie.Need-returns-2
@@ -66,7 +66,7 @@ var c =
     let s = k .before in
     let e = said (s .pre .0) (k .number-at .ensures) (m .match .keys2) in
     let is = lower .lower .ensures ∙ ap (λ (x : ℕ). x % 256) (a .number-at2 .ensures) in
-    c .naming2 .ensures ∙ ap (λ (n : Set). naming n false false) (single .single .ensures ∙ ap only is) ∙ sym (ap (own (tree-of (now (s .args .columns)))) e)
+    c .naming .ensures ∙ ap (λ (n : Set). naming n false false) (single .single .ensures ∙ ap only is) ∙ sym (ap (own (tree-of (now (s .args .columns)))) e)
 
 other : tie.Need-returns-8
 unfolding Rest
@@ -102,5 +102,5 @@ leaf-facts-spec =
     (λ c. let k = c .before .before .before in c .opaque2 .ensures ∙ sym (ap (own (tree-of (now (k .before .args .columns)))) (said (k .before .pre .0) (k .number-at .ensures) (c .before .match .keys4))))
     (λ c. let k = c .before .before .before in c .opaque3 .ensures ∙ sym (ap (own (tree-of (now (k .before .args .columns)))) (said (k .before .pre .0) (k .number-at .ensures) (c .before .match .keys5))))
     (λ c. let k = c .before .before .before in c .opaque4 .ensures ∙ sym (ap (own (tree-of (now (k .before .args .columns)))) (said (k .before .pre .0) (k .number-at .ensures) (c .before .match .keys6))))
-    (λ c. let k = c .before .before .before in c .opaque5 .ensures ∙ sym (ap (own (tree-of (now (k .before .args .columns)))) (said (k .before .pre .0) (k .number-at .ensures) (c .before .match .keys7))))
+    (λ c. let k = c .before .before .before in c .opaque-aggregate .ensures ∙ sym (ap (own (tree-of (now (k .before .args .columns)))) (said (k .before .pre .0) (k .number-at .ensures) (c .before .match .keys7))))
     other)

@@ -1,6 +1,5 @@
 -- `list_facts` has the facts of a predicate; the last arm has those of an array. Assumes nothing.
 use mathlib.Core.Path.{_≡_, refl, sym, ap, ap₂, _∙_, subst}
-use mathlib.Core.Bool.{false}
 use native.Mathlib.Omega.{arith}
 use Prim.Native.Nat.{ℕ, _+_, _/_, _%_, _<_}
 use denote.Ref.{now}
@@ -26,7 +25,7 @@ predicate c =
     let k = c .before .before in
     let s = k .before .before in
     let e = said (s .pre .0) (k .number-at .ensures) (c .before .match .keys1) in
-    c .searched .ensures ∙ ap (λ (a : Known). searched a (a .restricted) false) (row (k .before)) ∙ sym (of-list _ _ (ap (way (tree-of (now (s .args .columns)))) e) (s .pre .1))
+    c .searched .ensures ∙ ap (λ (a : Known). searched a (a .restricted)) (row (k .before)) ∙ sym (of-list _ _ (ap (way (tree-of (now (s .args .columns)))) e) (s .pre .1))
 
 array : tie.Need-returns-2
 unfolding Rest meant
@@ -35,7 +34,7 @@ array c =
     let s = k .before .before in
     let e = said (s .pre .0) (k .number-at .ensures) refl in
     let w = ap (way (tree-of (now (s .args .columns)))) e ∙ other-list _ _ _ _ (c .before .before .match .rest) (s .pre .1 ∙ ap parts-of e) in
-    c .searched2 .ensures ∙ ap₂ (λ (a : Known) b. searched a b (a .computed)) (row (k .before)) (c .before .empty .ensures) ∙ sym (of-list _ _ w (s .pre .1))
+    c .searched2 .ensures ∙ ap₂ searched (row (k .before)) (c .before .empty .ensures) ∙ sym (of-list _ _ w (s .pre .1))
 
 pub list-facts-spec : {M : Type 1} → statement M
 list-facts-spec =

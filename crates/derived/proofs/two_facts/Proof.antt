@@ -7,7 +7,7 @@ use lib.ListN.{getD}
 use Rattle.memory.specs.Columns.{node-said}
 use Rattle.memory.proofs.Unnamed.{Rest}
 use Rattle.trees.specs.Trees.{tree-of}
-use Rattle.known.specs.Known.{Known, known-of, and-known, or-known, since-known, compared, parts-of, nodes-of, way, own}
+use Rattle.known.specs.Known.{Known, known-of, and-known, or-known, arith-known, since-known, compared, parts-of, nodes-of, way, own}
 use Rattle.known.specs.Rows.{meant}
 use Rattle.known.proofs.RowLaws.{read-right}
 use Rattle.known.proofs.NodeLaws.{node-held, first-row, second-row}
@@ -42,7 +42,7 @@ ors c =
     let k = c .before .before in
     let s = k .before .before .before in
     let e = said (s .pre .0) (k .number-at .ensures) (c .before .match .keys2) in
-    c .or-facts .ensures ∙ ap₂ (λ (a b : Known). or-known a b false) (first (k .before)) (second (k .before)) ∙ sym (of-two _ _ (ap (way (tree-of (now (s .args .columns)))) e) (s .pre .1))
+    c .or-facts .ensures ∙ ap₂ or-known (first (k .before)) (second (k .before)) ∙ sym (of-two _ _ (ap (way (tree-of (now (s .args .columns)))) e) (s .pre .1))
 
 sinces : tie.Need-returns-3
 unfolding node-said way
@@ -76,7 +76,7 @@ ariths c =
     let s = k .before .before .before in
     let e = said (s .pre .0) (k .number-at .ensures) refl in
     let w = ap (way (tree-of (now (s .args .columns)))) e ∙ other-two _ _ _ _ _ (c .before .match .rest) (s .pre .1 ∙ ap parts-of e) in
-    c .or-facts2 .ensures ∙ ap₂ (λ (a b : Known). or-known a b true) (first (k .before)) (second (k .before)) ∙ sym (of-two _ _ w (s .pre .1))
+    c .arith-facts .ensures ∙ ap₂ arith-known (first (k .before)) (second (k .before)) ∙ sym (of-two _ _ w (s .pre .1))
 
 -- the sides of a comparison are held
 sides : tie.Need-eq-restricted-var-requires

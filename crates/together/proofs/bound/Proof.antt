@@ -13,7 +13,7 @@ use Rattle.together.proofs.bound.Tie as tie
 returns : tie.Need-returns
 unfolding meant bound
 returns c =
-    let within = c .before .before .before in
+    let within = c .before in
     let disjoint = within .before in
     let minus3 = disjoint .before in
     let minus2 = minus3 .before in
@@ -21,7 +21,14 @@ returns c =
     let own = minus1 .before in
     let s = own .before .args in
     let name = own .slot-name .ensures in
+    let m = c .bound-marks .ensures in
     rw (
+      m .sigils,
+      m .hards,
+      m .brokens,
+      m .bindings,
+      m .unclosings,
+      m .computings,
       slot-said (s .slot) _ (subst (λ (a : Set). Apart (disjoint .disjoint .result) a (mem (s .body .need))) name (disjoint .disjoint .ensures)),
       slot-said (s .slot) _ (subst (λ (a : Set). Apart (within .within .result) a (outside (mem (s .body .restricted)))) name (within .within .ensures)),
       minus3 .minus3 .ensures,
@@ -31,4 +38,4 @@ returns c =
     )
 
 pub bound-spec : {M : Type 1} → statement M
-bound-spec = tie.close (tie.spec (λ c κs. c .pre) (λ c κs. tt) (λ c κs. tt) (λ c κs. tt) (λ c κs. tt) (λ c κs. tt) returns)
+bound-spec = tie.close (tie.spec (λ c κs. c .pre) (λ c κs. tt) (λ c κs. tt) (λ c κs. tt) (λ c κs. tt) (λ c κs. tt) (λ c κs. tt) returns)

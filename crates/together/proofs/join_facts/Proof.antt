@@ -8,7 +8,7 @@ use Rattle.together.proofs.join_facts.Tie as tie
 
 returns : tie.Need-returns
 unfolding meant join
-returns c = c .both .ensures ∙ rw (c .before .before .before .union2 .ensures, c .before .before .before .before .union .ensures)
+returns c = c .both .ensures ∙ rw (c .before .union2 .ensures, c .before .before .union .ensures)
 
 pub join-facts-spec : {M : Type 1} → statement M
 join-facts-spec = tie.close (tie.spec (λ c κs. tt) (λ c κs. tt) (λ c κs. tt) returns)

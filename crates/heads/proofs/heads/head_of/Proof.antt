@@ -22,8 +22,7 @@ stands : (class len left nodes : ℕ) (begun : Bool) → ((eqb class 3 && begun)
     → (class ≡ 3) × (begun ≡ true) × (nodes < 512) × (len ≤ left)
 stands class len left nodes begun e =
     let p = and-left (eqb class 3 && begun) (ltb nodes 512 && leb len left) e in
-    let q = and-right (eqb class 3 && begun) (ltb nodes 512 && leb len left) e in
-    (
+    let q = and-right (eqb class 3 && begun) (ltb nodes 512 && leb len left) e in (
       eqb-true class 3 (and-left (eqb class 3) begun p),
       and-right (eqb class 3) begun p,
       ltb-true nodes 512 (and-left (ltb nodes 512) (leb len left) q),
