@@ -1,7 +1,7 @@
--- An aggregate: its cells, whether it is skipped, and its five rules as the code writes them. Assumes nothing.
+-- An aggregate: its cells, and its five rules as the code writes them. Assumes nothing.
 use mathlib.Core.Path.{_≡_, refl, sym, ap, ap₂, _∙_}
 use mathlib.Core.Bool.{Bool, true, false, not, _&&_, _||_}
-use mathlib.Core.List.{List, [], _∷_, _++_, append-nil, append-assoc}
+use mathlib.Core.List.{List, [], _∷_, _++_, append-nil}
 use Prim.Native.Nat.{ℕ}
 use types.Run.{OneOf, miss}
 use denote.Enum.Declared.{tagOf}
@@ -25,18 +25,14 @@ use Rattle.trees.specs.Trees.{tree-of, condition-of, term-of, binders-of}
 use Rattle.trees.proofs.Arms.{Arm}
 use Rattle.trees.proofs.ByKind.{term-cases}
 use Rattle.slots.proofs.SlotLaws.{in-cells}
-use Rattle.cells.specs.Aggregates.{skips, five, five-of}
+use Rattle.known.proofs.SoundLaws.{gather-both}
+use Rattle.cells.specs.Aggregates.{five, five-of}
 
 -- ---- cells
 
-gather-append : {A B : Type 0} (f : A → List B) (a b : List A) → gather f (a ++ b) ≡ gather f a ++ gather f b
-unfolding gather
-gather-append f [] b = refl
-gather-append f (x ∷ a) b = ap (λ (l : List _). f x ++ l) (gather-append f a b) ∙ sym (append-assoc (f x) (gather f a) (gather f b))
-
 pub cells-append : (rule : ℕ) (s : Set) (a b : List Cell) → findings (at-cells rule s (a ++ b)) ≡ findings (at-cells rule s a) ++ findings (at-cells rule s b)
 unfolding findings
-cells-append rule s a b = gather-append (at-cell rule s) a b
+cells-append rule s a b = gather-both (at-cell rule s) a b
 
 module _ {columns : List ℕ} {i : ℕ} where
   pub next-cell : {s : Slot} {y : ℕ} {l : NodeNo} → Arm columns i (node.BinderCell s y l)
@@ -70,9 +66,9 @@ own-outside : (rule : ℕ) (own a : Set) (l : Binders) → ((x : ℕ) → binder
 unfolding cells gather cell-of at-cell _∖_ _∪_ outside named only binder-names
 own-outside rule own a (no-binder n) h = refl
 own-outside rule own a (binder n s y l) h =
-    gather-append (at-cell rule (own ∖ a)) (cell-of n s) (cells l)
+    gather-both (at-cell rule (own ∖ a)) (cell-of n s) (cells l)
     ∙ ap₂ {C = List Finding} _++_ (at-slot s (λ x e. h x (left x e))) (own-outside rule own a l (λ x e. h x (right x e)))
-    ∙ sym (gather-append (at-cell rule (outside a)) (cell-of n s) (cells l))
+    ∙ sym (gather-both (at-cell rule (outside a)) (cell-of n s) (cells l))
   where
     left : (x : ℕ) → named s x ≡ true → binder-names (binder n s y l) x ≡ true
     left x e = rw e
@@ -89,20 +85,12 @@ own-outside rule own a (binder n s y l) h =
     at-slot (Param j) k = refl
     at-slot (Binder j) k = refl
 
--- ---- whether it is skipped
+-- ---- its five rules
 
 module _ {columns : List ℕ} {i : ℕ} where
-  pub in-term : {A : Type 0} (f : Rattle.paper.specs.Tree.Term → A) {m : Node} → Arm columns i m → f (term-of columns i) ≡ f (as-term (planted (tree-of columns)
+  in-term : {A : Type 0} (f : Rattle.paper.specs.Tree.Term → A) {m : Node} → Arm columns i m → f (term-of columns i) ≡ f (as-term (planted (tree-of columns)
       (node-no i) m))
   in-term f a = ap (λ (t : Tree). f (as-term t)) (a .tree)
-
-  pub skips-sum : {s : Slot} {l b : NodeNo} → Arm columns i (node.Sum s l b) → skips (term-of columns i) ≡ (is-sigil s || binder-sigil (binders-of columns (l .0)))
-  unfolding planted as-term skips
-  skips-sum a = in-term skips a
-
-  pub skips-count : {l b : NodeNo} → Arm columns i (node.Count l b) → skips (term-of columns i) ≡ binder-sigil (binders-of columns (l .0))
-  unfolding planted as-term skips
-  skips-count a = in-term skips a
 
   pub five-sum : (words scope : Set) {summed : Set} {s : Slot} {l b : NodeNo} → summed ≡ named s → Arm columns i (node.Sum s l b)
       → five-of words (term-of columns i) scope ≡ five words (node-no i) summed (binders-of columns (l .0)) (condition-of columns (b .0)) scope
@@ -121,13 +109,6 @@ module _ {columns : List ℕ} {i : ℕ} where
 -- no aggregate with a body
 abbrev no-body-kinds : List ℕ
 no-body-kinds = 0 ∷ 1 ∷ 2 ∷ 3 ∷ 4 ∷ 5 ∷ 6 ∷ 7 ∷ 8 ∷ 9 ∷ 10 ∷ 11 ∷ 12 ∷ 13 ∷ 14 ∷ 15 ∷ 16 ∷ 17 ∷ 18 ∷ 19 ∷ 20 ∷ 21 ∷ 24 ∷ 25 ∷ 26 ∷ 27 ∷ 28 ∷ []
-
-pub no-skips : (t : ℕ → Tree) (n : NodeNo) (m : Node) → OneOf no-body-kinds (tagOf the-type m) → skips (as-term (planted t n m)) ≡ false
-unfolding skips
-no-skips t n =
-    term-cases t n (λ m z. OneOf no-body-kinds (tagOf the-type m) → skips z ≡ false)
-    (λ x h. refl) (λ h. refl) (λ y h. refl) (λ y h. refl) (λ y h. refl) (λ k h. refl) (λ k h. refl) (λ l h. refl) (λ o l r h. refl)
-    (λ s l b h. absurd (miss no-body-kinds 22 tt h)) (λ l b h. absurd (miss no-body-kinds 23 tt h)) (λ y h. refl) (λ m e h. refl)
 
 no-five : (words scope : Set) (t : ℕ → Tree) (n : NodeNo) (m : Node) → OneOf no-body-kinds (tagOf the-type m) → five-of words (as-term (planted t n m)) scope ≡ []
 unfolding five-of

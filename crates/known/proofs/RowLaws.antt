@@ -87,11 +87,7 @@ all-noted {columns} {i = i} form g last l =
     let e = g .kept .long in
     record { fits = omega arith; row = λ k h t. g .below k (every-reached columns form i last k h) t }
 
--- what a call on a child asks for, where the caller's node is t
-pub under : {P : Type 0} {columns : List ℕ} {i : ℕ} {s : Sort} {k t : ℕ} → Child columns i s k → i ≡ t → P → (k < t) × (Has columns k × P)
-under c e n = let d = down c e in (d .0, (d .1, n))
-
--- the same of a condition, where its sort is asked for too
+-- what a call on a child that is a condition asks for, where the caller's node is t
 pub under-body : {P : Type 0} {columns : List ℕ} {i : ℕ} {k t : ℕ} → Child columns i condition k → i ≡ t → P
     → (k < t) × (Has columns k × P × (is-condition (tree-of columns k) ≡ true))
 under-body c e n = let d = down c e in (d .0, (d .1, n, a-body _ (c .fits)))

@@ -72,10 +72,10 @@ cell-none rule n (slot.Name x) a f l e = rw (f (x .0) (eq-eqb (x .0) (x .0) refl
 cell-none rule n (slot.Param k) a f l e = e
 cell-none rule n (slot.Binder k) a f l e = e
 
-gather-both : {A : Type 0} (f : A → List Finding) (a b : List A) → gather f (a ++ b) ≡ gather f a ++ gather f b
+pub gather-both : {A B : Type 0} (f : A → List B) (a b : List A) → gather f (a ++ b) ≡ gather f a ++ gather f b
 unfolding gather
-gather-both f [] b = refl
-gather-both f (x ∷ a) b = ap (_++_ (f x)) (gather-both f a b) ∙ sym (append-assoc (f x) (gather f a) (gather f b))
+gather-both {B = B} f [] b = refl
+gather-both {B = B} f (x ∷ a) b = ap (λ (l : List B). f x ++ l) (gather-both f a b) ∙ sym (append-assoc (f x) (gather f a) (gather f b))
 
 cells-none : (rule : ℕ) (a : Set) (l : Binders) → ((k : ℕ) → binder-names l k ≡ true → a k ≡ false) → findings (at-cells rule a (cells l)) ≡ []
 unfolding findings cells gather binder-names _∪_

@@ -152,14 +152,9 @@ tied-bare o l r = go (eqb o 0) (bare l) (bare r) (ties l) (ties r)
     go true subject.NoName subject.NoName s t = tt
 
 -- the name that a comparison ties, on whichever side
-pub data TiedTo (x : NameNo) : Tied → Type 0 where
+data TiedTo (x : NameNo) : Tied → Type 0 where
   left : TiedTo x (Left x)
   right : TiedTo x (Right x)
-
-pub tied-to-name : {x : NameNo} {z : Tied} → TiedTo x z → tied-name z ≡ only (x .0)
-unfolding tied-name
-tied-to-name left = refl
-tied-to-name right = refl
 
 tied-tabled : {columns : List ℕ} {i j : ℕ} → Has columns i → Has columns j → {x : NameNo} {z : Tied} → TiedTo x z → (o : ℕ)
     → z ≡ tied o (term-of columns i) (term-of columns j) → x .0 < 128
