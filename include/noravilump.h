@@ -6,7 +6,7 @@
  * function stands in its contract, in crates/noravilump/src/lib.rt.
  *
  * Who owns what: all memory is the caller's. The library allocates nothing, keeps no pointer and has no state, so that any number of threads may call it at
- * once. No call was measured to take more than 48 KiB of stack; no proof bounds it.
+ * once. No call was measured to take more than 56 KiB of stack; no proof bounds it.
  *
  * Pointers: `record` must lead to `len` bytes that nobody changes during the call, and `entries` to `room` aligned entries of the caller's own. `len` is at most
  * PTRDIFF_MAX, and `room` at most PTRDIFF_MAX / 4, as for any array in C. None may be NULL, not even where its length is 0: the proofs speak of slices, and

@@ -168,17 +168,14 @@ module _ (words : Set) where
   abbrev InScope : Bool → Set → Set → Type 0
   InScope b s scope = b ≡ true → Covers s scope
 
-  left-unreserved : (a b : Bool) → Unreserved (a || b) → Unreserved a
-  left-unreserved a b w e = w (or-left a b e)
-
-  right-unreserved : (a b : Bool) → Unreserved (a || b) → Unreserved b
-  right-unreserved a b w e = w (or-right a b e)
-
-  left-scope : (a b : Bool) (s t scope : Set) → InScope (a || b) (s ∪ t) scope → InScope a s scope
-  left-scope a b s t scope f e = covers-left s t scope (f (or-left a b e))
-
-  right-scope : (a b : Bool) (s t scope : Set) → InScope (a || b) (s ∪ t) scope → InScope b t scope
-  right-scope a b s t scope f e = covers-right s t scope (f (or-right a b e))
+  -- two places below, with the same names in scope
+  sides : (p q : Spot) (a b c d g h : Bool) (s t scope : Set) → (a || b) ≡ false → Unreserved (c || d) → InScope (g || h) (s ∪ t) scope
+      → (a ≡ false → Unreserved c → InScope g s scope → from p scope ≡ []) → (b ≡ false → Unreserved d → InScope h t scope → from q scope ≡ [])
+      → walked (asked-at p scope ∷ asked-at q scope ∷ []) ≡ []
+  sides p q a b c d g h s t scope e w f left right =
+      let n = or-none a b e in
+      two _ _ (left (n .0) (λ x. w (or-left c d x)) (λ x. covers-left s t scope (f (or-left g h x))))
+      (right (n .1) (λ x. w (or-right c d x)) (λ x. covers-right s t scope (f (or-right g h x))))
 
   -- an aggregate: skipped, or with nothing to find at it
   aggregate-none : (skipped : Bool) (n : NodeNo) (summed : Set) (l : Binders) (b : Condition) (scope : Set) → (unfit : Bool)
@@ -201,31 +198,23 @@ module _ (words : Set) where
 
     pub sound-condition : (c : Condition) (scope : Set) → broken c ≡ false → Unreserved (binds c) → InScope (unclosed c) (free c) scope → from (condition c) scope ≡ []
     sound-condition (And n l r) scope e w f =
-        let p = or-none (broken l) (broken r) e in
         at-none _ refl
-        (two _ _ (sound-condition l scope (p .0) (left-unreserved (binds l) (binds r) w) (left-scope (unclosed l) (unclosed r) (free l) (free r) scope f))
-        (sound-condition r scope (p .1) (right-unreserved (binds l) (binds r) w) (right-scope (unclosed l) (unclosed r) (free l) (free r) scope f)))
+        (sides (condition l) (condition r) (broken l) (broken r) (binds l) (binds r) (unclosed l) (unclosed r) (free l) (free r) scope e w f (λ x y z. sound-condition l scope x y z) (λ x y z. sound-condition r scope x y z))
     sound-condition (Or n l r) scope e w f =
-        let p = or-none (broken l) (broken r) e in
         at-none _ refl
-        (two _ _ (sound-condition l scope (p .0) (left-unreserved (binds l) (binds r) w) (left-scope (unclosed l) (unclosed r) (free l) (free r) scope f))
-        (sound-condition r scope (p .1) (right-unreserved (binds l) (binds r) w) (right-scope (unclosed l) (unclosed r) (free l) (free r) scope f)))
+        (sides (condition l) (condition r) (broken l) (broken r) (binds l) (binds r) (unclosed l) (unclosed r) (free l) (free r) scope e w f (λ x y z. sound-condition l scope x y z) (λ x y z. sound-condition r scope x y z))
     sound-condition (Not n b) scope e w f = at-none _ refl (one _ (sound-condition b scope e w f))
     sound-condition (Past n k b x) scope e w f = at-none _ refl (one _ (sound-condition b scope e w f))
     sound-condition (Since n l r x) scope e w f =
-        let p = or-none (broken l) (broken r) e in
         at-none _ refl
-        (two _ _ (sound-condition l scope (p .0) (left-unreserved (binds l) (binds r) w) (left-scope (unclosed l) (unclosed r) (free l) (free r) scope f))
-        (sound-condition r scope (p .1) (right-unreserved (binds l) (binds r) w) (right-scope (unclosed l) (unclosed r) (free l) (free r) scope f)))
+        (sides (condition l) (condition r) (broken l) (broken r) (binds l) (binds r) (unclosed l) (unclosed r) (free l) (free r) scope e w f (λ x y z. sound-condition l scope x y z) (λ x y z. sound-condition r scope x y z))
     sound-condition (Exists n s y b) scope e w f =
         let p = or-none (broken b) (not (holds-sigil b) && slot-in s (outside (restricted b))) e in
         at-none _ (rw (unreserved n (named s) words (w refl), restricted-binder n s b (p .1)))
         (one _ (sound-condition b _ (p .0) (λ g. w refl) (λ g. covers-eased (free b) (named s) scope (f g))))
     sound-condition (Comparison n o l r) scope e w f =
-        let p = or-none (term-broken l) (term-broken r) e in
         at-none _ refl
-        (two _ _ (sound-operand l scope (p .0) (left-unreserved (term-binds l) (term-binds r) w) (left-scope (term-unclosed l) (term-unclosed r) (term-free l) (term-free r) scope f))
-        (sound-operand r scope (p .1) (right-unreserved (term-binds l) (term-binds r) w) (right-scope (term-unclosed l) (term-unclosed r) (term-free l) (term-free r) scope f)))
+        (sides (operand l) (operand r) (term-broken l) (term-broken r) (term-binds l) (term-binds r) (term-unclosed l) (term-unclosed r) (term-free l) (term-free r) scope e w f (λ x y z. sound-operand l scope x y z) (λ x y z. sound-operand r scope x y z))
     sound-condition (Predicate n a l) scope e w f = at-none _ refl (one _ (arguments-none l scope e))
     sound-condition (Refine n b l) scope e w f = at-none _ refl (one _ (sound-condition b scope e w (λ g. covers-left (free b) _ scope (f g))))
     sound-condition (Tp n s) scope e w f = at-none _ (rw (unreserved n (named s) words (w refl))) refl
@@ -238,10 +227,8 @@ module _ (words : Set) where
     sound-operand (Sigil n k i) scope e w f = at-none _ refl refl
     sound-operand (Array n l) scope e w f = at-none _ refl (one _ (items-none l scope e))
     sound-operand (Arith n o l r) scope e w f =
-        let p = or-none (term-broken l) (term-broken r) e in
         at-none _ refl
-        (two _ _ (sound-operand l scope (p .0) (left-unreserved (term-binds l) (term-binds r) w) (left-scope (term-unclosed l) (term-unclosed r) (term-free l) (term-free r) scope f))
-        (sound-operand r scope (p .1) (right-unreserved (term-binds l) (term-binds r) w) (right-scope (term-unclosed l) (term-unclosed r) (term-free l) (term-free r) scope f)))
+        (sides (operand l) (operand r) (term-broken l) (term-broken r) (term-binds l) (term-binds r) (term-unclosed l) (term-unclosed r) (term-free l) (term-free r) scope e w f (λ x y z. sound-operand l scope x y z) (λ x y z. sound-operand r scope x y z))
     sound-operand (Sum n s l b) scope e w f =
         let p = aggregate-none (is-sigil s || binder-sigil l) n (named s) l b scope (slot-in s (outside (binder-names l))) (slot-out s _) e w f
         (λ g v h. sound-condition b _ g (λ i. v) h) in
