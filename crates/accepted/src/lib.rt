@@ -39,7 +39,7 @@ pub fn answer_check(bytes: &[u8], starts: &[u16; 512], nodes: usize, check: Chec
     requires { ⌜ Ready (now bytes) (now starts) nodes × ReservedFor (now bytes) check ⌝ }
     ensures { λ r. ⌜ r ≡ answered (part-asked check) (read (now (bytes .entry))) ⌝ }
 {
-    let mut columns = [0u16; 2049];
+    let mut columns = [0u64; 513];
     fill(bytes, starts, nodes, &mut columns);
     let mut one = [0u32; 1];
     let count = part_entries(&columns, root(nodes), check, &mut one);
@@ -51,7 +51,7 @@ pub fn arithmetic(bytes: &[u8], starts: &[u16; 512], nodes: usize) -> Arithmetic
     requires { ⌜ Ready (now bytes) (now starts) nodes ⌝ }
     ensures { λ r. ⌜ r ≡ arithmetic-answer (now (bytes .entry)) ⌝ }
 {
-    let mut columns = [0u16; 2049];
+    let mut columns = [0u64; 513];
     fill(bytes, starts, nodes, &mut columns);
     if condition_has_arith(&columns, root(nodes)) {
         return Arithmetic::Yes;
@@ -71,7 +71,7 @@ pub fn list(
     requires { ⌜ Ready (now bytes) (now starts) nodes × Reserved (now bytes) words × Counted (now bytes) names nodes ⌝ }
     ensures { λ r. ⌜ (r ≡ list-answer (now (bytes .entry)) (length (now (out .entry)))) × (now (out .exit) ≡ list-buffer (now (bytes .entry)) (now (out .entry))) ⌝ }
 {
-    let mut columns = [0u16; 2049];
+    let mut columns = [0u64; 513];
     fill(bytes, starts, nodes, &mut columns);
     let room = out.len();
     let most = most_entries(names, nodes);

@@ -23,7 +23,7 @@ ghost use Rattle.cells.specs.Aggregates.{five, five-of};
 
 // 22 at the cells, 24 and 25 at the aggregate, 26 and 27 at the cells.
 fn check_aggregation(
-    columns: &[u16; 2049],
+    columns: &[u64; 513],
     rows: &[[u64; 7]],
     n: NodeNo,
     summed: Names,
@@ -55,7 +55,7 @@ fn check_aggregation(
 
 // The same of the aggregate that a node is.
 pub fn check_agg_expr(
-    columns: &[u16; 2049],
+    columns: &[u64; 513],
     rows: &[[u64; 7]],
     i: NodeNo,
     scope: Names,

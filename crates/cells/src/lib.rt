@@ -37,7 +37,7 @@ fn emit_cell(n: NodeNo, slot: Slot, rule: u8, s: Names, out: &mut [u32], at: usi
 
 // A rule's entry at each cell that binds one of some names.
 pub fn emit_cells(
-    columns: &[u16; 2049],
+    columns: &[u64; 513],
     i: NodeNo,
     rule: u8,
     s: Names,

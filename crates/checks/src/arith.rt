@@ -9,7 +9,7 @@ ghost use Rattle.paper.specs.Demands.{has-arith, operand-arith};
 ghost use Rattle.record.specs.Stored.{Has};
 ghost use Rattle.trees.specs.Trees.{condition-of, term-of};
 
-pub fn condition_has_arith(columns: &[u16; 2049], i: NodeNo) -> bool
+pub fn condition_has_arith(columns: &[u64; 513], i: NodeNo) -> bool
     requires { ⌜ Has (now columns) (i .0) ⌝ }
     ensures { λ r. ⌜ r ≡ has-arith (condition-of (now (columns .entry)) (i .0)) ⌝ }
 {
@@ -25,7 +25,7 @@ pub fn condition_has_arith(columns: &[u16; 2049], i: NodeNo) -> bool
 }
 
 // Of an operand: arithmetic itself, or an aggregate whose body has it.
-pub fn term_has_arith(columns: &[u16; 2049], i: NodeNo) -> bool
+pub fn term_has_arith(columns: &[u64; 513], i: NodeNo) -> bool
     requires { ⌜ Has (now columns) (i .0) ⌝ }
     ensures { λ r. ⌜ r ≡ operand-arith (term-of (now (columns .entry)) (i .0)) ⌝ }
 {

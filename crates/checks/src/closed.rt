@@ -15,7 +15,7 @@ ghost use Rattle.writes.specs.Written.{Room, Wrote};
 
 // 28 at the node for each of its free names, ascending.
 pub fn check_leaf_closed(
-    columns: &[u16; 2049],
+    columns: &[u64; 513],
     rows: &[[u64; 7]],
     i: NodeNo,
     out: &mut [u32],

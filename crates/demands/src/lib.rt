@@ -23,7 +23,7 @@ ghost use Rattle.owed.specs.Demanded.{demanded};
 
 // The entries of a condition and of what lies below it. Where all that is needed is tied, nothing is entered.
 pub fn check_chain(
-    columns: &[u16; 2049],
+    columns: &[u64; 513],
     rows: &[[u64; 7]],
     i: NodeNo,
     tied: Names,
@@ -63,7 +63,7 @@ pub fn check_chain(
 
 // The same of an operand: through arithmetic to the bodies of aggregates.
 pub fn descend_nested_chains(
-    columns: &[u16; 2049],
+    columns: &[u64; 513],
     rows: &[[u64; 7]],
     i: NodeNo,
     tied: Names,

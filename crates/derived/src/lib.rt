@@ -45,7 +45,7 @@ ghost use Rattle.known.specs.Known.{parts-of, own, gathered as gathered-facts};
 ghost use Rattle.known.specs.Rows.{meant, facts-at, node-of, Sound};
 
 // What is known of a node that has no parts.
-pub fn leaf_facts(columns: &[u16; 2049], i: NodeNo) -> Facts
+pub fn leaf_facts(columns: &[u64; 513], i: NodeNo) -> Facts
     requires { ⌜ Has (now columns) (i .0) × (Leaf ≡ parts-of (node-of (now columns) (i .0))) ⌝ }
     ensures { λ f. ⌜ meant f ≡ own (tree-of (now (columns .entry))) (node-of (now (columns .entry)) (i .0)) ⌝ }
 {
@@ -72,13 +72,7 @@ pub fn leaf_facts(columns: &[u16; 2049], i: NodeNo) -> Facts
 }
 
 // An aggregate over a body: its binders are taken out, and it restricts nothing. What is skipped is found nothing at.
-fn gathered(
-    columns: &[u16; 2049],
-    body: Facts,
-    list: NodeNo,
-    skipped: bool,
-    unsummed: bool,
-) -> Facts
+fn gathered(columns: &[u64; 513], body: Facts, list: NodeNo, skipped: bool, unsummed: bool) -> Facts
     requires { ⌜ Has (now columns) (list .0) ⌝ }
     ensures { λ f. ⌜ meant f ≡ gathered-facts (meant body) (binders-of (now (columns .entry)) (list .0)) skipped unsummed ⌝ }
 {
@@ -99,7 +93,7 @@ fn gathered(
 }
 
 // A Sum, whose slot may be a sigil, or a name that no binder has.
-fn summed(columns: &[u16; 2049], body: Facts, slot: Slot, list: NodeNo) -> Facts
+fn summed(columns: &[u64; 513], body: Facts, slot: Slot, list: NodeNo) -> Facts
     requires { ⌜ Has (now columns) (list .0) × Tabled slot ⌝ }
     ensures { λ f. ⌜ meant f ≡ gathered-facts (meant body) (binders-of (now (columns .entry)) (list .0)) (is-sigil slot || binder-sigil (binders-of (now (columns .entry)) (list .0))) (slot-in slot (outside (binder-names (binders-of (now (columns .entry)) (list .0))))) ⌝ }
 {
@@ -112,7 +106,7 @@ fn summed(columns: &[u16; 2049], body: Facts, slot: Slot, list: NodeNo) -> Facts
 }
 
 // What is known of a node that has one part.
-pub fn one_facts(columns: &[u16; 2049], rows: &[[u64; 7]], i: NodeNo, b: NodeNo) -> Facts
+pub fn one_facts(columns: &[u64; 513], rows: &[[u64; 7]], i: NodeNo, b: NodeNo) -> Facts
     requires { ⌜ Has (now columns) (i .0) × (One b ≡ parts-of (node-of (now columns) (i .0))) × Sound (now columns) (now rows) (node-of (now columns) (i .0)) ⌝ }
     ensures { λ f. ⌜ meant f ≡ own (tree-of (now (columns .entry))) (node-of (now (columns .entry)) (i .0)) ⌝ }
 {
@@ -139,7 +133,7 @@ pub fn one_facts(columns: &[u16; 2049], rows: &[[u64; 7]], i: NodeNo, b: NodeNo)
 }
 
 // What is known of a node that has two parts.
-pub fn two_facts(columns: &[u16; 2049], rows: &[[u64; 7]], i: NodeNo, l: NodeNo, r: NodeNo) -> Facts
+pub fn two_facts(columns: &[u64; 513], rows: &[[u64; 7]], i: NodeNo, l: NodeNo, r: NodeNo) -> Facts
     requires { ⌜ Has (now columns) (i .0) × (Two l r ≡ parts-of (node-of (now columns) (i .0))) × Sound (now columns) (now rows) (node-of (now columns) (i .0)) ⌝ }
     ensures { λ f. ⌜ meant f ≡ own (tree-of (now (columns .entry))) (node-of (now (columns .entry)) (i .0)) ⌝ }
 {
@@ -160,7 +154,7 @@ pub fn two_facts(columns: &[u16; 2049], rows: &[[u64; 7]], i: NodeNo, l: NodeNo,
 }
 
 // What is known of a predicate or an array, from its list.
-pub fn list_facts(columns: &[u16; 2049], rows: &[[u64; 7]], i: NodeNo, list: NodeNo) -> Facts
+pub fn list_facts(columns: &[u64; 513], rows: &[[u64; 7]], i: NodeNo, list: NodeNo) -> Facts
     requires { ⌜ Has (now columns) (i .0) × (List list ≡ parts-of (node-of (now columns) (i .0))) × Sound (now columns) (now rows) (node-of (now columns) (i .0)) ⌝ }
     ensures { λ f. ⌜ meant f ≡ own (tree-of (now (columns .entry))) (node-of (now (columns .entry)) (i .0)) ⌝ }
 {
@@ -177,7 +171,7 @@ pub fn list_facts(columns: &[u16; 2049], rows: &[[u64; 7]], i: NodeNo, list: Nod
 
 // What is known of a refinement, or of a cell of a list.
 pub fn then_facts(
-    columns: &[u16; 2049],
+    columns: &[u64; 513],
     rows: &[[u64; 7]],
     i: NodeNo,
     first: NodeNo,

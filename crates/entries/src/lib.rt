@@ -10,7 +10,7 @@ ghost use Rattle.writes.specs.Written.{Room, Wrote};
 ghost use Rattle.listing.specs.Parts.{Last, part-of};
 
 fn part_noted(
-    columns: &[u16; 2049],
+    columns: &[u64; 513],
     i: NodeNo,
     check: Check,
     rows: &mut [[u64; 7]],
@@ -25,7 +25,7 @@ fn part_noted(
 }
 
 // The entries that a check asks for. Few nodes take few rows, since rows have to be cleared.
-pub fn part_entries(columns: &[u16; 2049], i: NodeNo, check: Check, out: &mut [u32]) -> usize
+pub fn part_entries(columns: &[u64; 513], i: NodeNo, check: Check, out: &mut [u32]) -> usize
     requires { ⌜ Last (now columns) (i .0) ⌝ }
     requires { ⌜ Room (part-of check i (condition-of (now columns) (i .0))) 0 ⌝ }
     ensures { λ r. ⌜ Wrote (part-of check i (condition-of (now (columns .entry)) (i .0))) 0 r (now (out .entry)) (now (out .exit)) ⌝ }

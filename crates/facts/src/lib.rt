@@ -23,7 +23,7 @@ ghost use Rattle.known.specs.Known.{parts-of, nodes-of};
 ghost use Rattle.known.specs.Rows.{node-of, Right, Kept, Gathered};
 
 // Here and below: a node's row, where the rows of its parts are right.
-fn put_leaf(columns: &[u16; 2049], rows: &mut [[u64; 7]], i: NodeNo)
+fn put_leaf(columns: &[u64; 513], rows: &mut [[u64; 7]], i: NodeNo)
     requires { ⌜ Has (now columns) (i .0) × (i .0 < length (now rows)) × (Leaf ≡ parts-of (node-of (now columns) (i .0))) ⌝ }
     ensures { λ r. ⌜ Kept (now (columns .entry)) (now (rows .entry)) (now (rows .exit)) × Right (now (columns .entry)) (now (rows .exit)) (i .0) ⌝ }
 {
@@ -31,7 +31,7 @@ fn put_leaf(columns: &[u16; 2049], rows: &mut [[u64; 7]], i: NodeNo)
     put_facts(rows, i, f);
 }
 
-fn put_one(columns: &[u16; 2049], rows: &mut [[u64; 7]], i: NodeNo, b: NodeNo)
+fn put_one(columns: &[u64; 513], rows: &mut [[u64; 7]], i: NodeNo, b: NodeNo)
     requires { ⌜ Has (now columns) (i .0) × (i .0 < length (now rows)) × (One b ≡ parts-of (node-of (now columns) (i .0))) ⌝ }
     requires { ⌜ All (Right (now columns) (now rows)) (nodes-of (parts-of (node-of (now columns) (i .0)))) ⌝ }
     ensures { λ r. ⌜ Kept (now (columns .entry)) (now (rows .entry)) (now (rows .exit)) × Right (now (columns .entry)) (now (rows .exit)) (i .0) ⌝ }
@@ -40,7 +40,7 @@ fn put_one(columns: &[u16; 2049], rows: &mut [[u64; 7]], i: NodeNo, b: NodeNo)
     put_facts(rows, i, f);
 }
 
-fn put_two(columns: &[u16; 2049], rows: &mut [[u64; 7]], i: NodeNo, l: NodeNo, r: NodeNo)
+fn put_two(columns: &[u64; 513], rows: &mut [[u64; 7]], i: NodeNo, l: NodeNo, r: NodeNo)
     requires { ⌜ Has (now columns) (i .0) × (i .0 < length (now rows)) × (Two l r ≡ parts-of (node-of (now columns) (i .0))) ⌝ }
     requires { ⌜ All (Right (now columns) (now rows)) (nodes-of (parts-of (node-of (now columns) (i .0)))) ⌝ }
     ensures { λ r. ⌜ Kept (now (columns .entry)) (now (rows .entry)) (now (rows .exit)) × Right (now (columns .entry)) (now (rows .exit)) (i .0) ⌝ }
@@ -49,7 +49,7 @@ fn put_two(columns: &[u16; 2049], rows: &mut [[u64; 7]], i: NodeNo, l: NodeNo, r
     put_facts(rows, i, f);
 }
 
-fn put_list(columns: &[u16; 2049], rows: &mut [[u64; 7]], i: NodeNo, list: NodeNo)
+fn put_list(columns: &[u64; 513], rows: &mut [[u64; 7]], i: NodeNo, list: NodeNo)
     requires { ⌜ Has (now columns) (i .0) × (i .0 < length (now rows)) × (List list ≡ parts-of (node-of (now columns) (i .0))) ⌝ }
     requires { ⌜ All (Right (now columns) (now rows)) (nodes-of (parts-of (node-of (now columns) (i .0)))) ⌝ }
     ensures { λ r. ⌜ Kept (now (columns .entry)) (now (rows .entry)) (now (rows .exit)) × Right (now (columns .entry)) (now (rows .exit)) (i .0) ⌝ }
@@ -58,7 +58,7 @@ fn put_list(columns: &[u16; 2049], rows: &mut [[u64; 7]], i: NodeNo, list: NodeN
     put_facts(rows, i, f);
 }
 
-fn put_then(columns: &[u16; 2049], rows: &mut [[u64; 7]], i: NodeNo, b: NodeNo, list: NodeNo)
+fn put_then(columns: &[u64; 513], rows: &mut [[u64; 7]], i: NodeNo, b: NodeNo, list: NodeNo)
     requires { ⌜ Has (now columns) (i .0) × (i .0 < length (now rows)) × (Then b list ≡ parts-of (node-of (now columns) (i .0))) ⌝ }
     requires { ⌜ All (Right (now columns) (now rows)) (nodes-of (parts-of (node-of (now columns) (i .0)))) ⌝ }
     ensures { λ r. ⌜ Kept (now (columns .entry)) (now (rows .entry)) (now (rows .exit)) × Right (now (columns .entry)) (now (rows .exit)) (i .0) ⌝ }
@@ -69,7 +69,7 @@ fn put_then(columns: &[u16; 2049], rows: &mut [[u64; 7]], i: NodeNo, b: NodeNo, 
 
 // The row of a node, by how many parts it has. It is called from two places, so that it stays a function of its own, and what it needs is not held on the stack
 // at every level below.
-fn put_own(columns: &[u16; 2049], rows: &mut [[u64; 7]], i: NodeNo)
+fn put_own(columns: &[u64; 513], rows: &mut [[u64; 7]], i: NodeNo)
     requires { ⌜ Has (now columns) (i .0) × (i .0 < length (now rows)) ⌝ }
     requires { ⌜ All (Right (now columns) (now rows)) (nodes-of (parts-of (node-of (now columns) (i .0)))) ⌝ }
     ensures { λ r. ⌜ Kept (now (columns .entry)) (now (rows .entry)) (now (rows .exit)) × Right (now (columns .entry)) (now (rows .exit)) (i .0) ⌝ }
@@ -84,7 +84,7 @@ fn put_own(columns: &[u16; 2049], rows: &mut [[u64; 7]], i: NodeNo)
 }
 
 // A list is gone through by a loop, so that a long one is not deep.
-fn collect_list(columns: &[u16; 2049], rows: &mut [[u64; 7]], list: NodeNo)
+fn collect_list(columns: &[u64; 513], rows: &mut [[u64; 7]], list: NodeNo)
     requires { ⌜ Has (now columns) (list .0) × (list .0 < length (now rows)) × (is-row (tree-of (now columns) (list .0)) ≡ true) ⌝ }
     ensures { λ r. ⌜ Gathered (now (columns .entry)) (now (rows .entry)) (now (rows .exit)) (list .0) ⌝ }
 {
@@ -106,7 +106,7 @@ fn collect_list(columns: &[u16; 2049], rows: &mut [[u64; 7]], list: NodeNo)
 }
 
 // Puts the row of a node, after those of all conditions and terms below it. Each node has one parent, so that none is looked at twice.
-pub fn collect_facts(columns: &[u16; 2049], rows: &mut [[u64; 7]], i: NodeNo)
+pub fn collect_facts(columns: &[u64; 513], rows: &mut [[u64; 7]], i: NodeNo)
     requires { ⌜ Has (now columns) (i .0) × (i .0 < length (now rows)) ⌝ }
     ensures { λ r. ⌜ Gathered (now (columns .entry)) (now (rows .entry)) (now (rows .exit)) (i .0) ⌝ }
 {

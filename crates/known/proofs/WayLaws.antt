@@ -3,18 +3,17 @@
 use mathlib.Core.Path.{_≡_, refl, sym, ap, ap₂, _∙_, subst}
 use mathlib.Core.Bool.{Bool, true, false, true≢false}
 use mathlib.Core.List.{List, [], _∷_, _++_}
-use Prim.Native.Nat.{ℕ, _+_, _<_}
-use lib.Dec.{eqb}
+use Prim.Native.Nat.{ℕ, _+_, _%_, _<_}
 use lib.ListN.{length, getD}
 use Rattle.paper.specs.declared.NodeNo.{NodeNo}
 use Rattle.paper.specs.declared.Node.{Node}
 use Rattle.paper.specs.declared.Node.the-variants.{ListEnd}
-use Rattle.paper.specs.Record.{announced, node-no}
+use Rattle.paper.specs.Record.{node-no}
 use Rattle.paper.specs.Shape.{names-in}
 use Rattle.paper.specs.Tree.{Tree}
 use Rattle.paper.specs.Sets.{none}
 use Rattle.paper.proofs.Walks.{All}
-use Rattle.memory.specs.Columns.{node-said, fields-in}
+use Rattle.memory.specs.Columns.{node-told, places-in}
 use Rattle.memory.proofs.ColumnLaws.{held-at}
 use Rattle.memory.proofs.Unnamed.{conditions, terms, cells, Away, Rest, rest-away, of-each, says-end}
 use Rattle.record.specs.Stored.{Has}
@@ -25,8 +24,8 @@ use Rattle.known.specs.Rows.{node-of}
 use Rattle.known.proofs.PartLaws.{known-arm}
 
 -- a node that is held, by its kind's number
-pub said : {columns : List ℕ} {i kind n : ℕ} → Has columns i → kind ≡ getD columns (0 + i) 0 → kind ≡ n → node-of columns i ≡ node-said (announced n) (fields-in columns i)
-said {columns} {i} h p e = held-at columns i (h .1) ∙ ap (λ (k : ℕ). node-said (announced k) (fields-in columns i)) (sym p ∙ e)
+pub said : {columns : List ℕ} {i w kind n : ℕ} → Has columns i → w ≡ getD columns i 0 → kind ≡ w % 0x100 → kind ≡ n → node-of columns i ≡ node-told n (places-in w)
+said {columns} {i} {w} h p q e = held-at columns i (h .1) ∙ ap (λ (x : ℕ). node-told (x % 0x100) (places-in x)) (sym p) ∙ ap (λ (k : ℕ). node-told k (places-in w)) (sym q ∙ e)
 
 -- its names are in the table
 pub names-tabled : {columns : List ℕ} {i : ℕ} {m : Node} → Has columns i → node-of columns i ≡ m → All (λ x. x < 128) (names-in m)
@@ -72,11 +71,11 @@ second-of (Then b l) = l
 
 -- ---- the kinds that a match does not name
 
-by-number : (Q : Node → Type 0) (named : List ℕ) (k : ℕ) (xs : List ℕ) → All (λ n. Away named n → Q (node-said (announced n) xs)) ((conditions ++ terms) ++ cells)
-    → Q ListEnd → Away named k → Q (node-said (announced k) xs)
-by-number Q named k xs each end away =
-    of-each (λ n. Away named n → Q (node-said (announced n) xs)) ((conditions ++ terms) ++ cells) k each
-    (λ a w. subst Q (sym (says-end k xs a (eqb k 0x30) refl)) end) away
+by-number : (Q : Node → Type 0) (named : List ℕ) (k : ℕ) (ps : List ℕ) → All (λ n. Away named n → Q (node-told n ps)) ((conditions ++ terms) ++ cells)
+    → Q ListEnd → Away named k → Q (node-told k ps)
+by-number Q named k ps each end away =
+    of-each (λ n. Away named n → Q (node-told n ps)) ((conditions ++ terms) ++ cells) k each
+    (λ a w. subst Q (sym (says-end k ps a)) end) away
 
 is-leaf : Parts → Bool
 is-leaf Leaf = true
@@ -88,11 +87,11 @@ is-leaf (Then b l) = false
 abbrev pub leaf-kinds : List ℕ
 leaf-kinds = 0x1A ∷ 0x20 ∷ 0x1B ∷ 0x1C ∷ 0x25 ∷ 0x26 ∷ 0x2B ∷ []
 
-pub other-leaf : (t : ℕ → Tree) (k : ℕ) (xs : List ℕ) → Rest leaf-kinds k (Unit {0}) → Leaf ≡ parts-of (node-said (announced k) xs)
-    → way t (node-said (announced k) xs) ≡ alone nothing
-unfolding node-said parts-of way Away is-leaf
-other-leaf t k xs rest =
-    by-number (λ m. Leaf ≡ parts-of m → way t m ≡ alone nothing) leaf-kinds k xs
+pub other-leaf : (t : ℕ → Tree) (k : ℕ) (ps : List ℕ) → Rest leaf-kinds k (Unit {0}) → Leaf ≡ parts-of (node-told k ps)
+    → way t (node-told k ps) ≡ alone nothing
+unfolding node-told parts-of way Away is-leaf
+other-leaf t k ps rest =
+    by-number (λ m. Leaf ≡ parts-of m → way t m ≡ alone nothing) leaf-kinds k ps
     ((λ a q. absurd (true≢false (ap is-leaf q))), ((λ a q. absurd (true≢false (ap is-leaf q))), ((λ a q. absurd (true≢false (ap is-leaf q))), ((λ a q. absurd (true≢false (ap is-leaf q))), ((λ a q. absurd (true≢false (ap is-leaf q))), ((λ a q. absurd (true≢false (ap is-leaf q))), ((λ a q. absurd (true≢false (ap is-leaf q))), ((λ a q. absurd (true≢false (ap is-leaf q))), ((λ a q. absurd (true≢false (ap is-leaf q))), ((λ a q. absurd (true≢false (ap is-leaf q))), ((λ a q. absurd (a .0 refl)), ((λ a q. absurd (a .1 .1 .0 refl)), ((λ a q. absurd (a .1 .1 .1 .0 refl)), ((λ a q. absurd (a .1 .0 refl)), ((λ a q. refl), ((λ a q. refl), ((λ a q. refl), ((λ a q. refl), ((λ a q. absurd (a .1 .1 .1 .1 .0 refl)), ((λ a q. absurd (a .1 .1 .1 .1 .1 .0 refl)), ((λ a q. absurd (true≢false (ap is-leaf q))), ((λ a q. absurd (true≢false (ap is-leaf q))), ((λ a q. absurd (true≢false (ap is-leaf q))), ((λ a q. absurd (true≢false (ap is-leaf q))), ((λ a q. absurd (a .1 .1 .1 .1 .1 .1 .0 refl)), ((λ a q. absurd (true≢false (ap is-leaf q))), ((λ a q. absurd (true≢false (ap is-leaf q))), ((λ a q. refl), tt))))))))))))))))))))))))))))
     (λ q. refl)
     (rest-away leaf-kinds k (Unit {0}) rest .1)
@@ -107,11 +106,11 @@ is-one (Then b l) = false
 abbrev pub one-kinds : List ℕ
 one-kinds = 0x12 ∷ 0x16 ∷ 0x29 ∷ 0x2A ∷ []
 
-pub other-one : (t : ℕ → Tree) (b : NodeNo) (k : ℕ) (xs : List ℕ) → Rest one-kinds k (Unit {0}) → One b ≡ parts-of (node-said (announced k) xs)
-    → way t (node-said (announced k) xs) ≡ over (λ a. a)
-unfolding node-said parts-of way Away is-one
-other-one t b k xs rest =
-    by-number (λ m. One b ≡ parts-of m → way t m ≡ over (λ a. a)) one-kinds k xs
+pub other-one : (t : ℕ → Tree) (b : NodeNo) (k : ℕ) (ps : List ℕ) → Rest one-kinds k (Unit {0}) → One b ≡ parts-of (node-told k ps)
+    → way t (node-told k ps) ≡ over (λ a. a)
+unfolding node-told parts-of way Away is-one
+other-one t b k ps rest =
+    by-number (λ m. One b ≡ parts-of m → way t m ≡ over (λ a. a)) one-kinds k ps
     ((λ a q. absurd (true≢false (ap is-one q))), ((λ a q. absurd (true≢false (ap is-one q))), ((λ a q. absurd (a .0 refl)), ((λ a q. refl), ((λ a q. refl), ((λ a q. absurd (true≢false (ap is-one q))), ((λ a q. absurd (a .1 .0 refl)), ((λ a q. absurd (true≢false (ap is-one q))), ((λ a q. absurd (true≢false (ap is-one q))), ((λ a q. absurd (true≢false (ap is-one q))), ((λ a q. absurd (true≢false (ap is-one q))), ((λ a q. absurd (true≢false (ap is-one q))), ((λ a q. absurd (true≢false (ap is-one q))), ((λ a q. absurd (true≢false (ap is-one q))), ((λ a q. absurd (true≢false (ap is-one q))), ((λ a q. absurd (true≢false (ap is-one q))), ((λ a q. absurd (true≢false (ap is-one q))), ((λ a q. absurd (true≢false (ap is-one q))), ((λ a q. absurd (true≢false (ap is-one q))), ((λ a q. absurd (true≢false (ap is-one q))), ((λ a q. absurd (true≢false (ap is-one q))), ((λ a q. absurd (true≢false (ap is-one q))), ((λ a q. absurd (a .1 .1 .0 refl)), ((λ a q. absurd (a .1 .1 .1 .0 refl)), ((λ a q. absurd (true≢false (ap is-one q))), ((λ a q. absurd (true≢false (ap is-one q))), ((λ a q. absurd (true≢false (ap is-one q))), ((λ a q. absurd (true≢false (ap is-one q))), tt))))))))))))))))))))))))))))
     (λ q. absurd (true≢false (ap is-one q)))
     (rest-away one-kinds k (Unit {0}) rest .1)
@@ -126,11 +125,11 @@ is-two (Then b l) = false
 abbrev pub two-kinds : List ℕ
 two-kinds = 0x10 ∷ 0x11 ∷ 0x15 ∷ 0x17 ∷ []
 
-pub other-two : (t : ℕ → Tree) (l r : NodeNo) (k : ℕ) (xs : List ℕ) → Rest two-kinds k (Unit {0}) → Two l r ≡ parts-of (node-said (announced k) xs)
-    → way t (node-said (announced k) xs) ≡ between arith-known
-unfolding node-said parts-of way Away is-two
-other-two t l r k xs rest =
-    by-number (λ m. Two l r ≡ parts-of m → way t m ≡ between arith-known) two-kinds k xs
+pub other-two : (t : ℕ → Tree) (l r : NodeNo) (k : ℕ) (ps : List ℕ) → Rest two-kinds k (Unit {0}) → Two l r ≡ parts-of (node-told k ps)
+    → way t (node-told k ps) ≡ between arith-known
+unfolding node-told parts-of way Away is-two
+other-two t l r k ps rest =
+    by-number (λ m. Two l r ≡ parts-of m → way t m ≡ between arith-known) two-kinds k ps
     ((λ a q. absurd (a .0 refl)), ((λ a q. absurd (a .1 .0 refl)), ((λ a q. absurd (true≢false (ap is-two q))), ((λ a q. absurd (true≢false (ap is-two q))), ((λ a q. absurd (true≢false (ap is-two q))), ((λ a q. absurd (a .1 .1 .0 refl)), ((λ a q. absurd (true≢false (ap is-two q))), ((λ a q. absurd (a .1 .1 .1 .0 refl)), ((λ a q. absurd (true≢false (ap is-two q))), ((λ a q. absurd (true≢false (ap is-two q))), ((λ a q. absurd (true≢false (ap is-two q))), ((λ a q. absurd (true≢false (ap is-two q))), ((λ a q. absurd (true≢false (ap is-two q))), ((λ a q. absurd (true≢false (ap is-two q))), ((λ a q. absurd (true≢false (ap is-two q))), ((λ a q. absurd (true≢false (ap is-two q))), ((λ a q. absurd (true≢false (ap is-two q))), ((λ a q. absurd (true≢false (ap is-two q))), ((λ a q. absurd (true≢false (ap is-two q))), ((λ a q. absurd (true≢false (ap is-two q))), ((λ a q. absurd (true≢false (ap is-two q))), ((λ a q. refl), ((λ a q. absurd (true≢false (ap is-two q))), ((λ a q. absurd (true≢false (ap is-two q))), ((λ a q. absurd (true≢false (ap is-two q))), ((λ a q. absurd (true≢false (ap is-two q))), ((λ a q. absurd (true≢false (ap is-two q))), ((λ a q. absurd (true≢false (ap is-two q))), tt))))))))))))))))))))))))))))
     (λ q. absurd (true≢false (ap is-two q)))
     (rest-away two-kinds k (Unit {0}) rest .1)
@@ -145,11 +144,11 @@ is-list (Then b l) = false
 abbrev pub list-kinds : List ℕ
 list-kinds = 0x18 ∷ []
 
-pub other-list : (t : ℕ → Tree) (l : NodeNo) (k : ℕ) (xs : List ℕ) → Rest list-kinds k (Unit {0}) → Listed l ≡ parts-of (node-said (announced k) xs)
-    → way t (node-said (announced k) xs) ≡ over (λ a. searched a none)
-unfolding node-said parts-of way Away is-list
-other-list t l k xs rest =
-    by-number (λ m. Listed l ≡ parts-of m → way t m ≡ over (λ a. searched a none)) list-kinds k xs
+pub other-list : (t : ℕ → Tree) (l : NodeNo) (k : ℕ) (ps : List ℕ) → Rest list-kinds k (Unit {0}) → Listed l ≡ parts-of (node-told k ps)
+    → way t (node-told k ps) ≡ over (λ a. searched a none)
+unfolding node-told parts-of way Away is-list
+other-list t l k ps rest =
+    by-number (λ m. Listed l ≡ parts-of m → way t m ≡ over (λ a. searched a none)) list-kinds k ps
     ((λ a q. absurd (true≢false (ap is-list q))), ((λ a q. absurd (true≢false (ap is-list q))), ((λ a q. absurd (true≢false (ap is-list q))), ((λ a q. absurd (true≢false (ap is-list q))), ((λ a q. absurd (true≢false (ap is-list q))), ((λ a q. absurd (true≢false (ap is-list q))), ((λ a q. absurd (true≢false (ap is-list q))), ((λ a q. absurd (true≢false (ap is-list q))), ((λ a q. absurd (a .0 refl)), ((λ a q. absurd (true≢false (ap is-list q))), ((λ a q. absurd (true≢false (ap is-list q))), ((λ a q. absurd (true≢false (ap is-list q))), ((λ a q. absurd (true≢false (ap is-list q))), ((λ a q. absurd (true≢false (ap is-list q))), ((λ a q. absurd (true≢false (ap is-list q))), ((λ a q. absurd (true≢false (ap is-list q))), ((λ a q. absurd (true≢false (ap is-list q))), ((λ a q. absurd (true≢false (ap is-list q))), ((λ a q. absurd (true≢false (ap is-list q))), ((λ a q. absurd (true≢false (ap is-list q))), ((λ a q. refl), ((λ a q. absurd (true≢false (ap is-list q))), ((λ a q. absurd (true≢false (ap is-list q))), ((λ a q. absurd (true≢false (ap is-list q))), ((λ a q. absurd (true≢false (ap is-list q))), ((λ a q. absurd (true≢false (ap is-list q))), ((λ a q. absurd (true≢false (ap is-list q))), ((λ a q. absurd (true≢false (ap is-list q))), tt))))))))))))))))))))))))))))
     (λ q. absurd (true≢false (ap is-list q)))
     (rest-away list-kinds k (Unit {0}) rest .1)
@@ -164,11 +163,11 @@ is-then (Then b l) = true
 abbrev pub then-kinds : List ℕ
 then-kinds = 0x19 ∷ []
 
-pub other-then : (t : ℕ → Tree) (b l : NodeNo) (k : ℕ) (xs : List ℕ) → Rest then-kinds k (Unit {0}) → Then b l ≡ parts-of (node-said (announced k) xs)
-    → way t (node-said (announced k) xs) ≡ between join
-unfolding node-said parts-of way Away is-then
-other-then t b l k xs rest =
-    by-number (λ m. Then b l ≡ parts-of m → way t m ≡ between join) then-kinds k xs
+pub other-then : (t : ℕ → Tree) (b l : NodeNo) (k : ℕ) (ps : List ℕ) → Rest then-kinds k (Unit {0}) → Then b l ≡ parts-of (node-told k ps)
+    → way t (node-told k ps) ≡ between join
+unfolding node-told parts-of way Away is-then
+other-then t b l k ps rest =
+    by-number (λ m. Then b l ≡ parts-of m → way t m ≡ between join) then-kinds k ps
     ((λ a q. absurd (true≢false (ap is-then q))), ((λ a q. absurd (true≢false (ap is-then q))), ((λ a q. absurd (true≢false (ap is-then q))), ((λ a q. absurd (true≢false (ap is-then q))), ((λ a q. absurd (true≢false (ap is-then q))), ((λ a q. absurd (true≢false (ap is-then q))), ((λ a q. absurd (true≢false (ap is-then q))), ((λ a q. absurd (true≢false (ap is-then q))), ((λ a q. absurd (true≢false (ap is-then q))), ((λ a q. absurd (a .0 refl)), ((λ a q. absurd (true≢false (ap is-then q))), ((λ a q. absurd (true≢false (ap is-then q))), ((λ a q. absurd (true≢false (ap is-then q))), ((λ a q. absurd (true≢false (ap is-then q))), ((λ a q. absurd (true≢false (ap is-then q))), ((λ a q. absurd (true≢false (ap is-then q))), ((λ a q. absurd (true≢false (ap is-then q))), ((λ a q. absurd (true≢false (ap is-then q))), ((λ a q. absurd (true≢false (ap is-then q))), ((λ a q. absurd (true≢false (ap is-then q))), ((λ a q. absurd (true≢false (ap is-then q))), ((λ a q. absurd (true≢false (ap is-then q))), ((λ a q. absurd (true≢false (ap is-then q))), ((λ a q. absurd (true≢false (ap is-then q))), ((λ a q. absurd (true≢false (ap is-then q))), ((λ a q. refl), ((λ a q. refl), ((λ a q. absurd (true≢false (ap is-then q))), tt))))))))))))))))))))))))))))
     (λ q. absurd (true≢false (ap is-then q)))
     (rest-away then-kinds k (Unit {0}) rest .1)

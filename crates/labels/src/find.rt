@@ -24,7 +24,7 @@ pub fn node(bytes: &[u8], i: NodeNo) -> Node
     if nodes <= (i.0 as usize) {
         return Node::ListEnd;
     }
-    let mut columns = [0u16; 2049];
+    let mut columns = [0u64; 513];
     fill(bytes, &a.starts, nodes, &mut columns);
     node_at(&columns, i)
 }

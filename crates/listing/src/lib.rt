@@ -23,7 +23,7 @@ pub enum Check {
 
 // 30 to 32; none if the condition holds a sigil.
 pub fn check_demands(
-    columns: &[u16; 2049],
+    columns: &[u64; 513],
     rows: &[[u64; 7]],
     i: NodeNo,
     out: &mut [u32],
@@ -42,7 +42,7 @@ pub fn check_demands(
 
 // 20 to 27 with the seed's names in scope, or 28, or 30 to 32.
 pub fn write_part(
-    columns: &[u16; 2049],
+    columns: &[u64; 513],
     rows: &[[u64; 7]],
     i: NodeNo,
     check: Check,
@@ -61,7 +61,7 @@ pub fn write_part(
 
 // 20 to 27 with nothing in scope, then 28, then 30 to 32.
 pub fn write_list(
-    columns: &[u16; 2049],
+    columns: &[u64; 513],
     rows: &[[u64; 7]],
     i: NodeNo,
     words: Names,

@@ -1,7 +1,7 @@
--- Each node reads the same from its columns and from its record's bytes: one law over the table of kinds. And what is asked of a node that columns hold may be
--- asked of its numbers. Assumes nothing.
+-- Each node reads the same from its word and from its record's bytes: one law over the table of kinds. And what is asked of a node that words hold may be
+-- asked of its kind and of the two bytes at each place. Assumes nothing.
 use mathlib.Core.Path.{_≡_, refl, sym, ap, ap₂, _∙_}
-use mathlib.Core.Bool.{true, false≢true}
+use mathlib.Core.Bool.{Bool, true, false, _||_, false≢true}
 use mathlib.Core.List.{List, [], _∷_, _++_, map}
 use Prim.Native.Nat.{ℕ, zero, suc, _+_, _*_, _/_, _%_, _<_}
 use native.Mathlib.Omega.{arith}
@@ -12,9 +12,9 @@ use lib.Seq.{drop-drop, getD-drop, getD-at, ext-getD}
 use borrow.Author.Tests.{eqb-true}
 use Rattle.paper.specs.declared.Node.{Node}
 use Rattle.paper.specs.declared.Node.the-variants.{ListEnd}
-use Rattle.paper.specs.Record.{Field, to, name-number, symbol, octet, comparison-op, arith-op, slot, field-bytes, two-bytes, value, values, Announced, format, name, end, unknown, node, announced}
+use Rattle.paper.specs.Record.{pick, Field, to, name-number, symbol, octet, comparison-op, arith-op, slot, field-bytes, two-bytes, value, values, Announced, format, name, end, unknown, node, announced}
 use Rattle.memory.specs.Decoded.{node-read, node-from}
-use Rattle.memory.specs.Columns.{said-by, values-in, node-said, node-in, first-nodes, held, Copies}
+use Rattle.memory.specs.Columns.{said-by, values-in, node-said, second-place, third-place, node-told, node-in, first-nodes, held, Copies}
 use Rattle.memory.proofs.Unnamed.{and-left, and-right}
 use Rattle.memory.proofs.KindLaws.{begin?, places, known}
 
@@ -69,43 +69,58 @@ module _ (b : List ℕ) (small : Octets b) where
       go end e = refl
       go unknown e = refl
 
--- ---- the nodes that columns hold
+  -- the two bytes at each place that a field may begin at
+  abbrev pub numbers-at : List ℕ
+  numbers-at = number-at 0 ∷ number-at 1 ∷ number-at 2 ∷ number-at 3 ∷ number-at 4 ∷ []
 
-module _ (columns : List ℕ) where
-  pub long-first : (n : ℕ) → length (first-nodes columns n) ≡ n
+  second-same : (t : Bool) → getD numbers-at (pick t 1 2) 0 ≡ number-at (pick t 1 2)
+  second-same true = refl
+  second-same false = refl
+
+  third-same : (t : Bool) → getD numbers-at (pick t 3 4) 0 ≡ number-at (pick t 3 4)
+  third-same true = refl
+  third-same false = refl
+
+  pub told-same : (k : ℕ) → node-told k numbers-at ≡ node-read (announced k) b
+  unfolding node-told second-place third-place
+  told-same k =
+      ap₂ (λ (y z : ℕ). node-said (announced k) (number-at 0 ∷ y ∷ z ∷ [])) (second-same (eqb k 0x17 || eqb k 0x28)) (third-same ((eqb k 0x16 || eqb k 0x17) || (eqb k 0x28 || eqb k 0x33)))
+      ∙ reads-same k
+
+-- ---- the nodes that words hold
+
+module _ (words : List ℕ) where
+  pub long-first : (n : ℕ) → length (first-nodes words n) ≡ n
   unfolding first-nodes
   long-first zero = refl
-  long-first (suc n) = let z = long-first n in let l = length-append (first-nodes columns n) (node-in columns n ∷ []) in omega arith
+  long-first (suc n) = let z = long-first n in let l = length-append (first-nodes words n) (node-in words n ∷ []) in omega arith
 
-  pub first-at : (n i : ℕ) → i < n → getD (first-nodes columns n) i ListEnd ≡ node-in columns i
+  pub first-at : (n i : ℕ) → i < n → getD (first-nodes words n) i ListEnd ≡ node-in words i
   unfolding first-nodes
   first-at zero i h = absurd (omega arith)
   first-at (suc n) i h = go (λ l. first-at n i l) (decLt i n)
     where
-      go : (i < n → getD (first-nodes columns n) i ListEnd ≡ node-in columns i) → Dec (i < n) → getD (first-nodes columns n ++ (node-in columns n ∷ [])) i ListEnd ≡ node-in columns i
-      go before (yes l) = List·getD-append (first-nodes columns n) (node-in columns n ∷ []) ListEnd i (let z = long-first n in omega arith) ∙ before l
+      go : (i < n → getD (first-nodes words n) i ListEnd ≡ node-in words i) → Dec (i < n) → getD (first-nodes words n ++ (node-in words n ∷ [])) i ListEnd ≡ node-in words i
+      go before (yes l) = List·getD-append (first-nodes words n) (node-in words n ∷ []) ListEnd i (let z = long-first n in omega arith) ∙ before l
       go before (no l) =
           let e : n ≡ i = omega arith in
-          getD-at (first-nodes columns n) (node-in columns n) [] ListEnd i (long-first n ∙ e) ∙ ap (node-in columns) e
+          getD-at (first-nodes words n) (node-in words n) [] ListEnd i (long-first n ∙ e) ∙ ap (node-in words) e
 
-pub held-at : (columns : List ℕ) (i : ℕ) → i < length (held columns) → getD (held columns) i ListEnd ≡ node-in columns i
+pub held-at : (words : List ℕ) (i : ℕ) → i < length (held words) → getD (held words) i ListEnd ≡ node-in words i
 unfolding held
-held-at columns i h = first-at columns (getD columns 2048 0) i (let z = long-first columns (getD columns 2048 0) in omega arith)
+held-at words i h = first-at words (getD words 512 0) i (let z = long-first words (getD words 512 0) in omega arith)
 
--- a node whose four numbers are these
-pub numbers : (columns : List ℕ) (j k a b c : ℕ) → getD columns (0 + j) 0 ≡ k → getD columns (512 + j) 0 ≡ a → getD columns (1024 + j) 0 ≡ b → getD columns (1536 + j) 0 ≡ c
-    → node-in columns j ≡ node-said (announced k) (a ∷ b ∷ c ∷ [])
-numbers columns j k a b c p q r s = rw (p, q, r, s)
-
--- what is asked of a node that is held may be asked of its four numbers
-pub asked-of : {A : Type 0} (f : Node → A) (columns : List ℕ) (i k a b c : ℕ) {t : A} → i < length (held columns) → k ≡ getD columns (0 + i) 0 → a ≡ getD columns (512 + i) 0
-    → b ≡ getD columns (1024 + i) 0 → c ≡ getD columns (1536 + i) 0 → t ≡ f (node-said (announced k) (a ∷ b ∷ c ∷ [])) → t ≡ f (getD (held columns) i ListEnd)
-asked-of f columns i k a b c h p q r s e = e ∙ ap f (sym (held-at columns i h ∙ numbers columns i k a b c (sym p) (sym q) (sym r) (sym s)))
+-- what is asked of a node that is held may be asked of its word
+pub asked-of : {A : Type 0} (f : Node → A) (words : List ℕ) (i w k a b c d e : ℕ) {t : A} → i < length (held words) → w ≡ getD words i 0 → k ≡ w % 0x100 → a ≡ w / 0x100 % 0x10000
+    → b ≡ w / 0x10000 % 0x10000 → c ≡ w / 0x1000000 % 0x10000 → d ≡ w / 0x100000000 % 0x10000 → e ≡ w / 0x10000000000 % 0x10000
+    → t ≡ f (node-told k (a ∷ b ∷ c ∷ d ∷ e ∷ [])) → t ≡ f (getD (held words) i ListEnd)
+asked-of f words i w k a b c d e h ew ek ea eb ec ed ee q =
+    q ∙ ap f (rw (ek, ea, eb, ec, ed, ee, ew)) ∙ ap f (sym (held-at words i h))
 
 -- what was copied is held
-pub copied-held : (bytes starts columns : List ℕ) (ms : List Node) → Copies bytes starts (length ms) columns
-    → ((i : ℕ) → i < length ms → getD ms i ListEnd ≡ node-from bytes (getD starts i 0)) → held columns ≡ ms
+pub copied-held : (bytes starts words : List ℕ) (ms : List Node) → Copies bytes starts (length ms) words
+    → ((i : ℕ) → i < length ms → getD ms i ListEnd ≡ node-from bytes (getD starts i 0)) → held words ≡ ms
 unfolding held
-copied-held bytes starts columns ms c e =
-    ap (first-nodes columns) (c .count) ∙ ext-getD ListEnd (first-nodes columns (length ms)) ms (long-first columns (length ms))
-    (λ i h. let l : i < length ms = let z = long-first columns (length ms) in omega arith in first-at columns (length ms) i l ∙ c .each i l ∙ sym (e i l))
+copied-held bytes starts words ms c e =
+    ap (first-nodes words) (c .count) ∙ ext-getD ListEnd (first-nodes words (length ms)) ms (long-first words (length ms))
+    (λ i h. let l : i < length ms = let z = long-first words (length ms) in omega arith in first-at words (length ms) i l ∙ c .each i l ∙ sym (e i l))

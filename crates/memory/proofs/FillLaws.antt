@@ -1,111 +1,109 @@
--- How columns are filled: a node's numbers at their places, the record that they are copied from, and one record after the other. Assumes nothing.
-use mathlib.Core.Path.{_≡_, sym, ap, _∙_, subst}
+-- How words are filled: the record that a word is taken from, and one record after the other. Assumes nothing.
+use mathlib.Core.Path.{_≡_, refl, sym, ap, ap₂, _∙_}
 use mathlib.Core.List.{List, [], _∷_}
-use Prim.Native.Nat.{ℕ, _+_, _*_, _<_, _≤_}
+use Prim.Native.Nat.{ℕ, _+_, _*_, _/_, _%_, _<_, _≤_}
 use native.Mathlib.Omega.{arith}
 use native.Mathlib.Decide.{ℕ-discrete}
 use lib.ListN.{length, getD, drop, set, length-set}
 use lib.Seq.{getD-drop, getD-set-same, getD-set-other}
 use Rattle.paper.specs.declared.Node.{Node}
 use Rattle.paper.specs.Record.{announced}
+use Rattle.octets.specs.Eights.{eight}
 use Rattle.memory.specs.Decoded.{node-read, node-from}
-use Rattle.memory.specs.Columns.{node-said, node-in, second-place, third-place, Stores, Copies}
+use Rattle.memory.specs.Columns.{node-told, places-in, node-in, Copies}
 use Rattle.memory.proofs.FieldLaws.{two-bytes-at}
-use Rattle.memory.proofs.ColumnLaws.{Octets, reads-same, numbers}
-
--- ---- a node's numbers
-
-module _ (columns : List ℕ) (long : length columns ≡ 2049) (i k a b c : ℕ) (within : i < 512) where
-  abbrev one : List ℕ
-  one = set columns (0 + i) k
-
-  abbrev two : List ℕ
-  two = set one (512 + i) a
-
-  abbrev three : List ℕ
-  three = set two (1024 + i) b
-
-  abbrev four : List ℕ
-  four = set three (1536 + i) c
-
-  -- a number that stands at none of the four places
-  beside : (p : ℕ) → (p ≡ 0 + i → ⊥) → (p ≡ 512 + i → ⊥) → (p ≡ 1024 + i → ⊥) → (p ≡ 1536 + i → ⊥) → getD four p 0 ≡ getD columns p 0
-  beside p w x y z =
-      getD-set-other three (1536 + i) p c 0 z ∙ getD-set-other two (1024 + i) p b 0 y ∙ getD-set-other one (512 + i) p a 0 x
-      ∙ getD-set-other columns (0 + i) p k 0 w
-
-  pub stored : Stores columns i (node-said (announced k) (a ∷ b ∷ c ∷ [])) four
-  stored =
-      let long1 = length-set columns (0 + i) k in
-      let long2 = length-set one (512 + i) a in
-      let long3 = length-set two (1024 + i) b in
-      record {
-        long = simp length-set;
-        here =
-            numbers four i k a b c
-            (getD-set-other three (1536 + i) (0 + i) c 0 (λ e. omega arith) ∙ getD-set-other two (1024 + i) (0 + i) b 0 (λ e. omega arith)
-            ∙ getD-set-other one (512 + i) (0 + i) a 0 (λ e. omega arith) ∙ getD-set-same columns (0 + i) k 0 (omega arith))
-            (getD-set-other three (1536 + i) (512 + i) c 0 (λ e. omega arith) ∙ getD-set-other two (1024 + i) (512 + i) b 0 (λ e. omega arith)
-            ∙ getD-set-same one (512 + i) a 0 (omega arith))
-            (getD-set-other three (1536 + i) (1024 + i) c 0 (λ e. omega arith) ∙ getD-set-same two (1024 + i) b 0 (omega arith))
-            (getD-set-same three (1536 + i) c 0 (omega arith));
-        others = λ j h n. numbers four j _ _ _ _
-            (beside (0 + j) (λ e. n (omega arith)) (λ e. omega arith) (λ e. omega arith) (λ e. omega arith))
-            (beside (512 + j) (λ e. omega arith) (λ e. n (omega arith)) (λ e. omega arith) (λ e. omega arith))
-            (beside (1024 + j) (λ e. omega arith) (λ e. omega arith) (λ e. n (omega arith)) (λ e. omega arith))
-            (beside (1536 + j) (λ e. omega arith) (λ e. omega arith) (λ e. omega arith) (λ e. n (omega arith)));
-      }
-
--- how many nodes there are says nothing of a node
-node-counted : (columns : List ℕ) (n j : ℕ) → j < 512 → node-in (set columns 2048 n) j ≡ node-in columns j
-node-counted columns n j h =
-    numbers (set columns 2048 n) j _ _ _ _ (beside (0 + j) (omega arith)) (beside (512 + j) (omega arith)) (beside (1024 + j) (omega arith)) (beside (1536 + j) (omega arith))
-  where
-    beside : (p : ℕ) → p < 2048 → getD (set columns 2048 n) p 0 ≡ getD columns p 0
-    beside p l = getD-set-other columns 2048 p n 0 (λ e. omega arith)
+use Rattle.memory.proofs.ColumnLaws.{Octets, number-at, numbers-at, told-same}
 
 -- ---- a record
 
-pub stores-is : {before after : List ℕ} {i : ℕ} {m n : Node} → m ≡ n → Stores before i m after → Stores before i n after
-stores-is {before} {after} {i} e s = subst (λ (z : Node). Stores before i z after) e s
+module _ (bytes : List ℕ) (small : Octets bytes) (at : ℕ) where
+  abbrev body : List ℕ
+  body = drop (at + 1) bytes
 
-pub copied : (bytes : List ℕ) → Octets bytes → (at k : ℕ) (body : List ℕ) (y z a b c : ℕ) → k ≡ getD bytes at 0 → body ≡ drop (at + 1) bytes → y ≡ second-place k → z ≡ third-place k
-    → a ≡ getD body 0 0 + 256 * getD body (0 + 1) 0 → b ≡ getD body y 0 + 256 * getD body (y + 1) 0 → c ≡ getD body z 0 + 256 * getD body (z + 1) 0
-    → node-said (announced k) (a ∷ b ∷ c ∷ []) ≡ node-from bytes at
-unfolding node-from
-copied bytes small at k body y z a b c ek eb ey ez ea eb′ ec =
-    rw (ea ∙ sym (two-bytes-at 0 body), eb′ ∙ sym (two-bytes-at y body), ec ∙ sym (two-bytes-at z body), ey, ez, eb)
-    (reads-same (drop (at + 1) bytes) (λ i. let l = small (at + 1 + i) in let e = getD-drop (at + 1) bytes i 0 in omega arith) k)
-    ∙ ap (λ (n : ℕ). node-read (announced n) (drop (at + 1) bytes)) ek
+  body-small : Octets body
+  body-small i = let l = small (at + 1 + i) in let e = getD-drop (at + 1) bytes i 0 in omega arith
+
+  -- two bytes of the body, by where they stand in the bytes
+  pair : (k : ℕ) → number-at body body-small k ≡ getD bytes (at + (k + 1)) 0 + 256 * getD bytes (at + (k + 2)) 0
+  pair k =
+      let one = getD-drop (at + 1) bytes k 0 in
+      let other = getD-drop (at + 1) bytes (k + 1) 0 in
+      two-bytes-at k body
+      ∙ ap₂ (λ (x y : ℕ). x + 256 * y) (one ∙ ap (λ (n : ℕ). getD bytes n 0) (let e : at + 1 + k ≡ at + (k + 1) = omega arith in e))
+      (other ∙ ap (λ (n : ℕ). getD bytes n 0) (let e : at + 1 + (k + 1) ≡ at + (k + 2) = omega arith in e))
+
+  abbrev word : ℕ
+  word = eight bytes at
+
+  kind-in : word % 0x100 ≡ getD bytes at 0
+  kind-in = let z = small at in omega arith
+
+  -- the bytes of a word from the second on, two by two
+  first : word / 0x100 % 0x10000 ≡ getD bytes (at + 1) 0 + 256 * getD bytes (at + 2) 0
+  first = let a = small at in let b = small (at + 1) in let c = small (at + 2) in omega arith
+
+  second : word / 0x10000 % 0x10000 ≡ getD bytes (at + 2) 0 + 256 * getD bytes (at + 3) 0
+  second = let a = small at in let b = small (at + 1) in let c = small (at + 2) in let d = small (at + 3) in omega arith
+
+  third : word / 0x1000000 % 0x10000 ≡ getD bytes (at + 3) 0 + 256 * getD bytes (at + 4) 0
+  third = let a = small at in let b = small (at + 1) in let c = small (at + 2) in let d = small (at + 3) in let e = small (at + 4) in omega arith
+
+  -- where the last four are counted from
+  later : (k : ℕ) → getD bytes (at + 4 + k) 0 ≡ getD bytes (at + (4 + k)) 0
+  later k = ap (λ (n : ℕ). getD bytes n 0) (let e : at + 4 + k ≡ at + (4 + k) = omega arith in e)
+
+  fourth : word / 0x100000000 % 0x10000 ≡ getD bytes (at + 4) 0 + 256 * getD bytes (at + 5) 0
+  fourth =
+      let a = small at in let b = small (at + 1) in let c = small (at + 2) in let d = small (at + 3) in let e = small (at + 4) in let f = small (at + 5) in
+      let x = later 1 in omega arith
+
+  fifth : word / 0x10000000000 % 0x10000 ≡ getD bytes (at + 5) 0 + 256 * getD bytes (at + 6) 0
+  fifth =
+      let a = small at in let b = small (at + 1) in let c = small (at + 2) in let d = small (at + 3) in let e = small (at + 4) in let f = small (at + 5) in
+      let g = small (at + 6) in let x = later 1 in let y = later 2 in omega arith
+
+  pub copied : {w : ℕ} → w ≡ word → node-told (w % 0x100) (places-in w) ≡ node-from bytes at
+  unfolding node-from
+  copied e =
+      ap (λ (w : ℕ). node-told (w % 0x100) (places-in w)) e
+      ∙ rw (kind-in, first ∙ sym (pair 0), second ∙ sym (pair 1), third ∙ sym (pair 2), fourth ∙ sym (pair 3), fifth ∙ sym (pair 4))
+      (told-same body body-small (getD bytes at 0))
 
 -- ---- one record after the other
 
+-- a word at another place says nothing of a node
+beside : (words : List ℕ) (i j w : ℕ) → (j ≡ i → ⊥) → node-in (set words i w) j ≡ node-in words j
+beside words i j w d = ap (λ (x : ℕ). node-told (x % 0x100) (places-in x)) (getD-set-other words i j w 0 d)
+
 -- the first i of so many nodes are copied
-pub record FirstCopied (bytes starts : List ℕ) (nodes : ℕ) (columns : List ℕ) (i : ℕ) : Type 0 where
-  pub long : length columns ≡ 2049
+pub record FirstCopied (bytes starts : List ℕ) (nodes : ℕ) (words : List ℕ) (i : ℕ) : Type 0 where
+  pub long : length words ≡ 513
   pub few : nodes ≤ 512
   pub upto : i ≤ nodes
-  pub each : (j : ℕ) → j < i → node-in columns j ≡ node-from bytes (getD starts j 0)
+  pub each : (j : ℕ) → j < i → node-in words j ≡ node-from bytes (getD starts j 0)
 
-module _ {bytes starts : List ℕ} {nodes : ℕ} {columns : List ℕ} where
-  pub none-yet : nodes ≤ 512 → length columns ≡ 2049 → FirstCopied bytes starts nodes columns 0
+module _ {bytes starts : List ℕ} {nodes : ℕ} {words : List ℕ} where
+  pub none-yet : nodes ≤ 512 → length words ≡ 513 → FirstCopied bytes starts nodes words 0
   none-yet h l = record { long = l; few = h; upto = omega arith; each = λ j z. absurd (omega arith) }
 
-  pub one-more : {i at : ℕ} {after : List ℕ} → FirstCopied bytes starts nodes columns i → i < nodes → at ≡ getD starts i 0 → Stores columns i (node-from bytes at) after
-      → FirstCopied bytes starts nodes after (i + 1)
-  one-more {i} {at} {after} p h e s =
+  pub one-more : {i at w : ℕ} → FirstCopied bytes starts nodes words i → i < nodes → at ≡ getD starts i 0 → Octets bytes → w ≡ eight bytes at
+      → FirstCopied bytes starts nodes (set words i w) (i + 1)
+  one-more {i} {at} {w} p h e small is =
       let f = p .few in
-      record { long = s .long ∙ p .long; few = p .few; upto = omega arith; each = λ j l. go f j l (ℕ-discrete j i) }
+      let l = p .long in
+      record { long = length-set words i w ∙ l; few = f; upto = omega arith; each = λ j z. go f l j z (ℕ-discrete j i) }
     where
-      go : nodes ≤ 512 → (j : ℕ) → j < i + 1 → Dec (j ≡ i) → node-in after j ≡ node-from bytes (getD starts j 0)
-      go f j l (yes d) = ap (node-in after) d ∙ s .here ∙ ap (node-from bytes) (e ∙ ap (λ (n : ℕ). getD starts n 0) (sym d))
-      go f j l (no d) = s .others j (omega arith) d ∙ p .each j (omega arith)
+      go : nodes ≤ 512 → length words ≡ 513 → (j : ℕ) → j < i + 1 → Dec (j ≡ i) → node-in (set words i w) j ≡ node-from bytes (getD starts j 0)
+      go f l j z (yes d) =
+          ap (λ (x : ℕ). node-told (x % 0x100) (places-in x)) (ap (λ (n : ℕ). getD (set words i w) n 0) d ∙ getD-set-same words i w 0 (omega arith))
+          ∙ copied bytes small at is ∙ ap (node-from bytes) (e ∙ ap (λ (n : ℕ). getD starts n 0) (sym d))
+      go f l j z (no d) = beside words i j w d ∙ p .each j (omega arith)
 
-  pub all-copied : {i : ℕ} → FirstCopied bytes starts nodes columns i → nodes ≤ i → Copies bytes starts nodes (set columns 2048 nodes)
+  pub all-copied : {i : ℕ} → FirstCopied bytes starts nodes words i → nodes ≤ i → Copies bytes starts nodes (set words 512 nodes)
   all-copied p h =
       let f = p .few in
       let l = p .long in
       record {
-        count = getD-set-same columns 2048 nodes 0 (omega arith);
-        each = λ j z. node-counted columns nodes j (omega arith) ∙ p .each j (omega arith);
+        count = getD-set-same words 512 nodes 0 (omega arith);
+        each = λ j z. beside words 512 j nodes (λ e. omega arith) ∙ p .each j (omega arith);
       }

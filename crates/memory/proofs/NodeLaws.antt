@@ -1,14 +1,14 @@
--- A node that is read off its columns by a match on its kind says what the definition says. Assumes nothing.
+-- A node that is read off its word by a match on its kind says what the definition says. Assumes nothing.
 use mathlib.Core.Path.{_≡_, sym, ap, _∙_}
 use mathlib.Core.List.{List}
 use Prim.Native.Nat.{ℕ}
 use Rattle.paper.specs.declared.Node.{Node}
-use Rattle.paper.specs.Record.{node-no, name-no, announced}
-use Rattle.memory.specs.Columns.{node-said}
+use Rattle.paper.specs.Record.{node-no, name-no}
+use Rattle.memory.specs.Columns.{node-told}
 
 -- in the arm of a match that names the kind n
-pub arm : (k n : ℕ) (xs : List ℕ) (t : Node) → k ≡ n → t ≡ node-said (announced n) xs → t ≡ node-said (announced k) xs
-arm k n xs t e h = h ∙ ap (λ (m : ℕ). node-said (announced m) xs) (sym e)
+pub arm : (k n : ℕ) (ps : List ℕ) (t : Node) → k ≡ n → t ≡ node-told n ps → t ≡ node-told k ps
+arm k n ps t e h = h ∙ ap (λ (m : ℕ). node-told m ps) (sym e)
 
 pub node-no-same : {x y : ℕ} → x ≡ y → node-no x ≡ node-no y
 node-no-same e = ap node-no e

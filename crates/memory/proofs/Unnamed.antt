@@ -10,7 +10,7 @@ use borrow.Author.Tests.{eqb-true, eqb-false, ne-eqb}
 use Rattle.paper.specs.declared.Node.the-variants.{ListEnd}
 use Rattle.paper.proofs.Walks.{All}
 use Rattle.paper.specs.Record.{pick, Kind, kinds, node-kind, format, name, end, unknown, announced}
-use Rattle.memory.specs.Columns.{node-said}
+use Rattle.memory.specs.Columns.{node-said, node-told}
 
 pub and-left : (a b : Bool) → (a && b) ≡ true → a ≡ true
 and-left true b e = refl
@@ -107,12 +107,16 @@ no-node false true u xs = refl
 no-node false false true xs = refl
 no-node false false false xs = refl
 
-pub says-end : (k : ℕ) (xs : List ℕ) → Away ((conditions ++ terms) ++ cells) k → (t : Bool) → eqb k 0x30 ≡ t → node-said (announced k) xs ≡ ListEnd
+said-end : (k : ℕ) (xs : List ℕ) → Away ((conditions ++ terms) ++ cells) k → (t : Bool) → eqb k 0x30 ≡ t → node-said (announced k) xs ≡ ListEnd
 unfolding node-said announced node-kind kinds Away all? among?
-says-end k xs a true e = rw (eqb-true k 0x30 e)
-says-end k xs a false e =
+said-end k xs a true e = rw (eqb-true k 0x30 e)
+said-end k xs a false e =
     rw (no-kind kinds k (away-among (map (λ (r : Kind). r .kind) kinds) (0x30 ∷ ((conditions ++ terms) ++ cells)) k refl (eqb-false k 0x30 e, a))) (no-node (eqb k 0x01) (eqb k 0x02) (eqb k 0x7F) xs)
 
+pub says-end : (k : ℕ) (ps : List ℕ) → Away ((conditions ++ terms) ++ cells) k → node-told k ps ≡ ListEnd
+unfolding node-told
+says-end k ps a = said-end k _ a (eqb k 0x30) refl
+
 -- a match that names every kind but 0x30
-pub last-arm : (k : ℕ) (xs : List ℕ) → Rest ((conditions ++ terms) ++ cells) k (Unit {0}) → ListEnd ≡ node-said (announced k) xs
-last-arm k xs m = sym (says-end k xs (rest-away ((conditions ++ terms) ++ cells) k (Unit {0}) m .1) (eqb k 0x30) refl)
+pub last-arm : (k : ℕ) (ps : List ℕ) → Rest ((conditions ++ terms) ++ cells) k (Unit {0}) → ListEnd ≡ node-told k ps
+last-arm k ps m = sym (says-end k ps (rest-away ((conditions ++ terms) ++ cells) k (Unit {0}) m .1))

@@ -1,18 +1,18 @@
--- Nodes as columns: four of 512 numbers of 16 bits, one after the other, the kinds and then the first, second and third fields; and behind them how many
--- nodes there are. Of a field its column has the two bytes that begin where the field does: a reference or a symbol is both as one number, a slot is its sort
--- and its number, and what has one byte is the lower one. Assumes nothing: these are definitions.
-use Prim.Native.Nat.{ℕ, zero, suc, _+_, _/_, _%_, _<_}
+-- Nodes as words: 512 numbers of 64 bits, each the first eight bytes of a node's record, the kind lowest, since no node's record has more than seven; and behind
+-- them how many nodes there are. Of a field a word has the two bytes that begin where the field does: a reference or a symbol is both as one number, a slot is
+-- its sort and its number, and what has one byte is the lower one. Assumes nothing: these are definitions.
+use Prim.Native.Nat.{ℕ, zero, suc, _/_, _%_, _<_}
 use mathlib.Core.Path.{_≡_}
 use mathlib.Core.Bool.{_||_}
 use mathlib.Core.List.{List, [], _∷_, _++_}
 use lib.Dec.{eqb}
-use lib.ListN.{length, getD}
+use lib.ListN.{getD}
 use Rattle.paper.specs.declared.Node.{Node}
 use Rattle.paper.specs.declared.Node.the-variants.{ListEnd}
 use Rattle.paper.specs.Record.{pick, Field, to, name-number, symbol, octet, comparison-op, arith-op, slot, slot-of, kinds, Announced, format, name, end, unknown, node, node-kind, announced}
 use Rattle.memory.specs.Decoded.{node-from}
 
--- ---- a node from its columns
+-- ---- a node from its word
 
 -- what a field says where this number stands for it
 unfoldable pub said-by : Field → ℕ → List ℕ
@@ -38,23 +38,6 @@ node-said name xs = ListEnd
 node-said end xs = ListEnd
 node-said unknown xs = ListEnd
 
-abbrev pub fields-in : List ℕ → ℕ → List ℕ
-fields-in columns i = getD columns (512 + i) 0 ∷ getD columns (1024 + i) 0 ∷ getD columns (1536 + i) 0 ∷ []
-
-abbrev pub node-in : List ℕ → ℕ → Node
-node-in columns i = node-said (announced (getD columns (0 + i) 0)) (fields-in columns i)
-
--- ---- the nodes that columns hold
-
-unfoldable pub first-nodes : List ℕ → ℕ → List Node
-first-nodes columns zero = []
-first-nodes columns (suc n) = first-nodes columns n ++ (node-in columns n ∷ [])
-
-unfoldable pub held : List ℕ → List Node
-held columns = first-nodes columns (getD columns 2048 0)
-
--- ---- how they are filled
-
 -- where the fields of a kind begin in its body; where there is no such field, no matter
 unfoldable pub second-place : ℕ → ℕ
 second-place k = pick (eqb k 0x17 || eqb k 0x28) 1 2
@@ -62,13 +45,31 @@ second-place k = pick (eqb k 0x17 || eqb k 0x28) 1 2
 unfoldable pub third-place : ℕ → ℕ
 third-place k = pick ((eqb k 0x16 || eqb k 0x17) || (eqb k 0x28 || eqb k 0x33)) 3 4
 
--- node i is now m, and every other node is as before
-pub record Stores (before : List ℕ) (i : ℕ) (m : Node) (after : List ℕ) : Type 0 where
-  pub long : length after ≡ length before
-  pub here : node-in after i ≡ m
-  pub others : (j : ℕ) → j < 512 → (j ≡ i → ⊥) → node-in after j ≡ node-in before j
+-- the node of a kind where these are the two bytes at each place of its body
+unfoldable pub node-told : ℕ → List ℕ → Node
+unfolding node-said second-place third-place
+node-told k ps = node-said (announced k) (getD ps 0 0 ∷ getD ps (second-place k) 0 ∷ getD ps (third-place k) 0 ∷ [])
+
+-- the two bytes at each place of the body, in a word whose lowest byte is the kind
+abbrev pub places-in : ℕ → List ℕ
+places-in w =
+    w / 0x100 % 0x10000 ∷ w / 0x10000 % 0x10000 ∷ w / 0x1000000 % 0x10000 ∷ w / 0x100000000 % 0x10000 ∷ w / 0x10000000000 % 0x10000 ∷ []
+
+abbrev pub node-in : List ℕ → ℕ → Node
+node-in words i = node-told (getD words i 0 % 0x100) (places-in (getD words i 0))
+
+-- ---- the nodes that words hold
+
+unfoldable pub first-nodes : List ℕ → ℕ → List Node
+first-nodes words zero = []
+first-nodes words (suc n) = first-nodes words n ++ (node-in words n ∷ [])
+
+unfoldable pub held : List ℕ → List Node
+held words = first-nodes words (getD words 512 0)
+
+-- ---- how they are filled
 
 -- each of so many nodes is the one that its record's bytes say
-pub record Copies (bytes starts : List ℕ) (nodes : ℕ) (columns : List ℕ) : Type 0 where
-  pub count : getD columns 2048 0 ≡ nodes
-  pub each : (i : ℕ) → i < nodes → node-in columns i ≡ node-from bytes (getD starts i 0)
+pub record Copies (bytes starts : List ℕ) (nodes : ℕ) (words : List ℕ) : Type 0 where
+  pub count : getD words 512 0 ≡ nodes
+  pub each : (i : ℕ) → i < nodes → node-in words i ≡ node-from bytes (getD starts i 0)

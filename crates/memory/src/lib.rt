@@ -36,13 +36,16 @@ pub struct Scanned {
     pub reserved: Names,
 }
 
-// Nodes as columns: where each column begins in their array, and where the number of nodes stands.
-pub const KINDS: usize = 0;
+// Nodes as words: how many there are stands behind them.
+pub const COUNT: usize = 512;
 
-pub const FIRSTS: usize = 512;
+// What a word is divided by, so that the two bytes at a place of the body come lowest.
+pub const PLACE_0: u64 = 0x100;
 
-pub const SECONDS: usize = 1024;
+pub const PLACE_1: u64 = 0x10000;
 
-pub const THIRDS: usize = 1536;
+pub const PLACE_2: u64 = 0x1000000;
 
-pub const COUNT: usize = 2048;
+pub const PLACE_3: u64 = 0x100000000;
+
+pub const PLACE_4: u64 = 0x10000000000;

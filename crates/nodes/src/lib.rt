@@ -1,13 +1,13 @@
-// A node from the numbers in its columns.
+// A node from its word.
 use paper::NameNo;
 use paper::Node;
 use paper::NodeNo;
 use paper::Slot;
 ghost use mathlib.Core.Path.{_≡_};
 ghost use mathlib.Core.List.{[], _∷_};
-ghost use Prim.Native.Nat.{_/_, _%_};
-ghost use Rattle.paper.specs.Record.{slot-of, announced};
-ghost use Rattle.memory.specs.Columns.{node-said};
+ghost use Prim.Native.Nat.{_/_, _%_, _<_};
+ghost use Rattle.paper.specs.Record.{slot-of};
+ghost use Rattle.memory.specs.Columns.{node-told};
 
 pub fn lower(x: u16) -> u8
     ensures { λ r. ⌜ r ≡ x % 256 ⌝ }
@@ -40,39 +40,53 @@ pub fn slot_in(x: u16) -> Slot
     slot_of(sort, number)
 }
 
-// The node of a kind whose first, second and third fields these are.
-pub fn node_of(kind: u16, a: u16, b: u16, c: u16) -> Node
-    ensures { λ r. ⌜ r ≡ node-said (announced kind) (a ∷ b ∷ c ∷ []) ⌝ }
+pub fn kind_in(word: u64) -> u8
+    ensures { λ r. ⌜ r ≡ word % 0x100 ⌝ }
+{
+    (word % 0x100) as u8
+}
+
+// The two bytes that come lowest when a word is divided by a power of 256: the compiler makes a shift of it.
+pub fn number_in(word: u64, past: u64) -> u16
+    requires { ⌜ 0 < past ⌝ }
+    ensures { λ r. ⌜ r ≡ word / past % 0x10000 ⌝ }
+{
+    (word / past % 0x10000) as u16
+}
+
+// The node of a kind where these are the two bytes at each place of its body.
+pub fn node_of(kind: u8, p0: u16, p1: u16, p2: u16, p3: u16, p4: u16) -> Node
+    ensures { λ r. ⌜ r ≡ node-told kind (p0 ∷ p1 ∷ p2 ∷ p3 ∷ p4 ∷ []) ⌝ }
 {
     match kind {
-        0x10 => Node::And(NodeNo(a), NodeNo(b)),
-        0x11 => Node::Or(NodeNo(a), NodeNo(b)),
-        0x12 => Node::Not(NodeNo(a)),
-        0x13 => Node::Formerly(NodeNo(a), b),
-        0x14 => Node::Previous(NodeNo(a), b),
-        0x15 => Node::Since(NodeNo(a), NodeNo(b), c),
-        0x16 => Node::Exists(slot_in(a), lower(b), NodeNo(c)),
-        0x17 => Node::Comparison(lower(a), NodeNo(b), NodeNo(c)),
-        0x18 => Node::Predicate(a, NodeNo(b)),
-        0x19 => Node::Refine(NodeNo(a), NodeNo(b)),
-        0x1A => Node::Tp(slot_in(a)),
-        0x1B => Node::Call(a),
-        0x1C => Node::SigilRef(a),
-        0x20 => Node::Var(NameNo(lower(a))),
+        0x10 => Node::And(NodeNo(p0), NodeNo(p2)),
+        0x11 => Node::Or(NodeNo(p0), NodeNo(p2)),
+        0x12 => Node::Not(NodeNo(p0)),
+        0x13 => Node::Formerly(NodeNo(p0), p2),
+        0x14 => Node::Previous(NodeNo(p0), p2),
+        0x15 => Node::Since(NodeNo(p0), NodeNo(p2), p4),
+        0x16 => Node::Exists(slot_in(p0), lower(p2), NodeNo(p3)),
+        0x17 => Node::Comparison(lower(p0), NodeNo(p1), NodeNo(p3)),
+        0x18 => Node::Predicate(p0, NodeNo(p2)),
+        0x19 => Node::Refine(NodeNo(p0), NodeNo(p2)),
+        0x1A => Node::Tp(slot_in(p0)),
+        0x1B => Node::Call(p0),
+        0x1C => Node::SigilRef(p0),
+        0x20 => Node::Var(NameNo(lower(p0))),
         0x21 => Node::Wildcard,
-        0x22 => Node::Literal(a),
-        0x23 => Node::ScopeField(a),
-        0x24 => Node::ContextField(a),
-        0x25 => Node::ParamRef(lower(a)),
-        0x26 => Node::BinderRef(lower(a)),
-        0x27 => Node::Array(NodeNo(a)),
-        0x28 => Node::Arith(lower(a), NodeNo(b), NodeNo(c)),
-        0x29 => Node::Sum(slot_in(a), NodeNo(b), NodeNo(c)),
-        0x2A => Node::Count(NodeNo(a), NodeNo(b)),
-        0x2B => Node::AggregateCall(a),
-        0x31 => Node::ArgumentCell(a, NodeNo(b), NodeNo(c)),
-        0x32 => Node::ItemCell(NodeNo(a), NodeNo(b)),
-        0x33 => Node::BinderCell(slot_in(a), lower(b), NodeNo(c)),
+        0x22 => Node::Literal(p0),
+        0x23 => Node::ScopeField(p0),
+        0x24 => Node::ContextField(p0),
+        0x25 => Node::ParamRef(lower(p0)),
+        0x26 => Node::BinderRef(lower(p0)),
+        0x27 => Node::Array(NodeNo(p0)),
+        0x28 => Node::Arith(lower(p0), NodeNo(p1), NodeNo(p3)),
+        0x29 => Node::Sum(slot_in(p0), NodeNo(p2), NodeNo(p4)),
+        0x2A => Node::Count(NodeNo(p0), NodeNo(p2)),
+        0x2B => Node::AggregateCall(p0),
+        0x31 => Node::ArgumentCell(p0, NodeNo(p2), NodeNo(p4)),
+        0x32 => Node::ItemCell(NodeNo(p0), NodeNo(p2)),
+        0x33 => Node::BinderCell(slot_in(p0), lower(p2), NodeNo(p3)),
         _ => Node::ListEnd,
     }
 }

@@ -65,7 +65,7 @@ fn check_comparison_demands(
 
 // The entries of a condition itself: 30 to 32 for the names that are not tied.
 fn check_conjunct_demands(
-    columns: &[u16; 2049],
+    columns: &[u64; 513],
     rows: &[[u64; 7]],
     i: NodeNo,
     node: Node,
@@ -101,7 +101,7 @@ fn check_conjunct_demands(
 
 // The same, if the condition is asked.
 pub fn check_own_demands(
-    columns: &[u16; 2049],
+    columns: &[u64; 513],
     rows: &[[u64; 7]],
     i: NodeNo,
     node: Node,
@@ -123,7 +123,7 @@ pub fn check_own_demands(
 
 // What is tied at the first part of a condition: on the left of Since also what the right restricts, below a binder not its name.
 pub fn tied_first(
-    columns: &[u16; 2049],
+    columns: &[u64; 513],
     rows: &[[u64; 7]],
     i: NodeNo,
     node: Node,
@@ -145,7 +145,7 @@ pub fn tied_first(
 
 // What is tied at the second part: on the right of And also what the left restricts.
 pub fn tied_second(
-    columns: &[u16; 2049],
+    columns: &[u64; 513],
     rows: &[[u64; 7]],
     i: NodeNo,
     node: Node,

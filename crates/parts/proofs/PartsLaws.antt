@@ -2,16 +2,14 @@
 use mathlib.Core.Path.{_≡_, refl, sym, ap, _∙_}
 use mathlib.Core.List.{List, [], _∷_, _++_}
 use Prim.Native.Nat.{ℕ}
-use lib.Dec.{eqb}
-use Rattle.paper.specs.Record.{announced}
-use Rattle.memory.specs.Columns.{node-said}
+use Rattle.memory.specs.Columns.{node-told}
 use Rattle.memory.proofs.Unnamed.{conditions, terms, cells, Rest, rest-away, all?, among?, away-among, away-both, of-each, says-end}
 use Rattle.known.specs.declared.Parts.{Parts}
 use Rattle.known.specs.declared.Parts.the-variants.{Leaf}
 use Rattle.known.specs.Known.{parts-of}
 
-pub parts-arm : (k n : ℕ) (xs : List ℕ) (t : Parts) → k ≡ n → t ≡ parts-of (node-said (announced n) xs) → t ≡ parts-of (node-said (announced k) xs)
-parts-arm k n xs t e h = h ∙ ap (λ (m : ℕ). parts-of (node-said (announced m) xs)) (sym e)
+pub parts-arm : (k n : ℕ) (ps : List ℕ) (t : Parts) → k ≡ n → t ≡ parts-of (node-told n ps) → t ≡ parts-of (node-told k ps)
+parts-arm k n ps t e h = h ∙ ap (λ (m : ℕ). parts-of (node-told m ps)) (sym e)
 
 -- the kinds that have parts, and those that have none but for 0x30
 abbrev pub branching : List ℕ
@@ -21,10 +19,10 @@ branching =
 abbrev leaves : List ℕ
 leaves = 0x1A ∷ 0x1B ∷ 0x1C ∷ 0x20 ∷ 0x21 ∷ 0x22 ∷ 0x23 ∷ 0x24 ∷ 0x25 ∷ 0x26 ∷ 0x2B ∷ 0x33 ∷ []
 
-pub leaf-arm : (k : ℕ) (xs : List ℕ) → Rest branching k (Unit {0}) → Leaf ≡ parts-of (node-said (announced k) xs)
-unfolding node-said parts-of all? among?
-leaf-arm k xs m =
-    of-each (λ n. Leaf ≡ parts-of (node-said (announced n) xs)) leaves k
+pub leaf-arm : (k : ℕ) (ps : List ℕ) → Rest branching k (Unit {0}) → Leaf ≡ parts-of (node-told k ps)
+unfolding node-told parts-of all? among?
+leaf-arm k ps m =
+    of-each (λ n. Leaf ≡ parts-of (node-told n ps)) leaves k
     (refl, (refl, (refl, (refl, (refl, (refl, (refl, (refl, (refl, (refl, (refl, (refl, tt))))))))))))
-    (λ a. ap parts-of (sym (says-end k xs (away-among ((conditions ++ terms) ++ cells) (branching ++ leaves) k refl
-    (away-both branching leaves k (rest-away branching k (Unit {0}) m .1) a)) (eqb k 0x30) refl)))
+    (λ a. ap parts-of (sym (says-end k ps (away-among ((conditions ++ terms) ++ cells) (branching ++ leaves) k refl
+    (away-both branching leaves k (rest-away branching k (Unit {0}) m .1) a)))))

@@ -1,18 +1,20 @@
 // The parts of a node, and where a walk goes on below it.
 use known::Parts;
-use memory::FIRSTS;
-use memory::KINDS;
-use memory::SECONDS;
-use memory::THIRDS;
+use memory::PLACE_0;
+use memory::PLACE_1;
+use memory::PLACE_2;
+use memory::PLACE_3;
+use memory::PLACE_4;
+use nodes::kind_in;
+use nodes::number_in;
 use paper::Node;
 use paper::NodeNo;
-use record::access::number_at;
+use record::access::word_at;
 ghost use mathlib.Core.Path.{_≡_};
 ghost use mathlib.Core.List.{[], _∷_};
 ghost use lib.ListN.{getD};
 ghost use Rattle.paper.specs.declared.Node.the-variants.{ListEnd};
-ghost use Rattle.paper.specs.Record.{announced};
-ghost use Rattle.memory.specs.Columns.{node-said};
+ghost use Rattle.memory.specs.Columns.{node-told};
 ghost use Rattle.record.specs.Stored.{held, Has};
 ghost use Rattle.known.specs.Known.{parts-of};
 ghost use Rattle.parts.specs.Entered.{entered-below};
@@ -25,40 +27,43 @@ pub enum Below {
     Operands(NodeNo, NodeNo),
 }
 
-// The nodes that a node's facts follow from, where its kind and its fields are these: no node is made of them, to be taken apart again.
-fn parts_in(kind: u16, a: u16, b: u16, c: u16) -> Parts
-    ensures { λ r. ⌜ r ≡ parts-of (node-said (announced kind) (a ∷ b ∷ c ∷ [])) ⌝ }
+// The nodes that a node's facts follow from, where these are its kind and the two bytes at each place: no node is made of them, to be taken apart again.
+fn parts_in(kind: u8, p0: u16, p1: u16, p2: u16, p3: u16, p4: u16) -> Parts
+    ensures { λ r. ⌜ r ≡ parts-of (node-told kind (p0 ∷ p1 ∷ p2 ∷ p3 ∷ p4 ∷ [])) ⌝ }
 {
     match kind {
-        0x10 => Parts::Two(NodeNo(a), NodeNo(b)),
-        0x11 => Parts::Two(NodeNo(a), NodeNo(b)),
-        0x12 => Parts::One(NodeNo(a)),
-        0x13 => Parts::One(NodeNo(a)),
-        0x14 => Parts::One(NodeNo(a)),
-        0x15 => Parts::Two(NodeNo(a), NodeNo(b)),
-        0x16 => Parts::One(NodeNo(c)),
-        0x17 => Parts::Two(NodeNo(b), NodeNo(c)),
-        0x18 => Parts::List(NodeNo(b)),
-        0x19 => Parts::Then(NodeNo(a), NodeNo(b)),
-        0x27 => Parts::List(NodeNo(a)),
-        0x28 => Parts::Two(NodeNo(b), NodeNo(c)),
-        0x29 => Parts::One(NodeNo(c)),
-        0x2A => Parts::One(NodeNo(b)),
-        0x31 => Parts::Then(NodeNo(b), NodeNo(c)),
-        0x32 => Parts::Then(NodeNo(a), NodeNo(b)),
+        0x10 => Parts::Two(NodeNo(p0), NodeNo(p2)),
+        0x11 => Parts::Two(NodeNo(p0), NodeNo(p2)),
+        0x12 => Parts::One(NodeNo(p0)),
+        0x13 => Parts::One(NodeNo(p0)),
+        0x14 => Parts::One(NodeNo(p0)),
+        0x15 => Parts::Two(NodeNo(p0), NodeNo(p2)),
+        0x16 => Parts::One(NodeNo(p3)),
+        0x17 => Parts::Two(NodeNo(p1), NodeNo(p3)),
+        0x18 => Parts::List(NodeNo(p2)),
+        0x19 => Parts::Then(NodeNo(p0), NodeNo(p2)),
+        0x27 => Parts::List(NodeNo(p0)),
+        0x28 => Parts::Two(NodeNo(p1), NodeNo(p3)),
+        0x29 => Parts::One(NodeNo(p4)),
+        0x2A => Parts::One(NodeNo(p2)),
+        0x31 => Parts::Then(NodeNo(p2), NodeNo(p4)),
+        0x32 => Parts::Then(NodeNo(p0), NodeNo(p2)),
         _ => Parts::Leaf,
     }
 }
 
-pub fn parts_at(columns: &[u16; 2049], i: NodeNo) -> Parts
+pub fn parts_at(columns: &[u64; 513], i: NodeNo) -> Parts
     requires { ⌜ Has (now columns) (i .0) ⌝ }
     ensures { λ r. ⌜ r ≡ parts-of (getD (held (now (columns .entry))) (i .0) ListEnd) ⌝ }
 {
-    let kind = number_at(columns, KINDS, i);
-    let a = number_at(columns, FIRSTS, i);
-    let b = number_at(columns, SECONDS, i);
-    let c = number_at(columns, THIRDS, i);
-    parts_in(kind, a, b, c)
+    let word = word_at(columns, i);
+    let kind = kind_in(word);
+    let p0 = number_in(word, PLACE_0);
+    let p1 = number_in(word, PLACE_1);
+    let p2 = number_in(word, PLACE_2);
+    let p3 = number_in(word, PLACE_3);
+    let p4 = number_in(word, PLACE_4);
+    parts_in(kind, p0, p1, p2, p3, p4)
 }
 
 // The conditions or the operands of a condition; a refinement's fields and a predicate's arguments are not entered.

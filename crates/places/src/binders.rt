@@ -40,7 +40,7 @@ pub fn reject_reserved_binder(
 }
 
 // The slot's name, unless the body restricts it or holds a sigil.
-fn unsafe_name(columns: &[u16; 2049], rows: &[[u64; 7]], slot: Slot, body: NodeNo) -> Names
+fn unsafe_name(columns: &[u64; 513], rows: &[[u64; 7]], slot: Slot, body: NodeNo) -> Names
     requires { ⌜ Tabled slot × (body .0 < length (held (now columns))) × Noted (now columns) (now rows) × (is-condition (tree-of (now columns) (body .0)) ≡ true) ⌝ }
     ensures { λ r. ⌜ mem r ≡ pick (holds-sigil (condition-of (now (columns .entry)) (body .0))) none (named slot ∖ restricted (condition-of (now (columns .entry)) (body .0))) ⌝ }
 {
@@ -54,7 +54,7 @@ fn unsafe_name(columns: &[u16; 2049], rows: &[[u64; 7]], slot: Slot, body: NodeN
 
 // 22 and then 23 at the binder of an exists: its name is reserved, or its body does not restrict it.
 pub fn check_exists_binder(
-    columns: &[u16; 2049],
+    columns: &[u64; 513],
     rows: &[[u64; 7]],
     n: NodeNo,
     slot: Slot,

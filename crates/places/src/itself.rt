@@ -21,7 +21,7 @@ ghost use Rattle.places.specs.Itself.{at-itself, ScopeFirst};
 
 // 22 and 23 at an exists, 22 at a tp, 20 and 21 in the arguments of a predicate.
 pub fn check_itself(
-    columns: &[u16; 2049],
+    columns: &[u64; 513],
     rows: &[[u64; 7]],
     i: NodeNo,
     node: Node,

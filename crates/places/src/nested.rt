@@ -25,7 +25,7 @@ fn reject(n: NodeNo, rule: u8, out: &mut [u32], at: usize) -> usize
 }
 
 // Of a term, or of the terms of a list: 20 for an aggregate, 21 for arithmetic, through arrays.
-pub fn reject_nested_agg(columns: &[u16; 2049], i: NodeNo, out: &mut [u32], at: usize) -> usize
+pub fn reject_nested_agg(columns: &[u64; 513], i: NodeNo, out: &mut [u32], at: usize) -> usize
     requires { ⌜ Has (now columns) (i .0) ⌝ }
     requires { ⌜ Room (nested-in (tree-of (now columns) (i .0))) at ⌝ }
     ensures { λ r. ⌜ Wrote (nested-in (tree-of (now (columns .entry)) (i .0))) at r (now (out .entry)) (now (out .exit)) ⌝ }

@@ -1,39 +1,44 @@
 // A node and a name by their numbers.
 use crate::reader::read;
-use memory::FIRSTS;
-use memory::KINDS;
-use memory::SECONDS;
-use memory::THIRDS;
+use memory::PLACE_0;
+use memory::PLACE_1;
+use memory::PLACE_2;
+use memory::PLACE_3;
+use memory::PLACE_4;
+use nodes::kind_in;
 use nodes::node_of;
+use nodes::number_in;
 use paper::NameNo;
 use paper::Node;
 use paper::NodeNo;
 use paper::Verdict;
 use words::unpadded;
 ghost use mathlib.Core.Path.{_≡_};
-ghost use Prim.Native.Nat.{_+_, _≤_};
 ghost use lib.ListN.{getD, take, drop};
 ghost use Rattle.paper.specs.declared.Node.the-variants.{ListEnd};
 ghost use Rattle.paper.specs.Questions.{name as name-asked};
 ghost use Rattle.record.specs.Stored.{held, Has};
 
-// A node's number in a column. Of those that read, the one function that knows where a node lies.
-pub fn number_at(columns: &[u16; 2049], column: usize, i: NodeNo) -> u16
-    requires { ⌜ Has (now columns) (i .0) × (column ≤ 1536) ⌝ }
-    ensures { λ r. ⌜ r ≡ getD (now (columns .entry)) (column + i .0) 0 ⌝ }
+// A node's word. Of those that read, the one function that knows where a node lies.
+pub fn word_at(columns: &[u64; 513], i: NodeNo) -> u64
+    requires { ⌜ Has (now columns) (i .0) ⌝ }
+    ensures { λ r. ⌜ r ≡ getD (now (columns .entry)) (i .0) 0 ⌝ }
 {
-    columns[column + i.0 as usize]
+    columns[i.0 as usize]
 }
 
-pub fn node_at(columns: &[u16; 2049], i: NodeNo) -> Node
+pub fn node_at(columns: &[u64; 513], i: NodeNo) -> Node
     requires { ⌜ Has (now columns) (i .0) ⌝ }
     ensures { λ r. ⌜ r ≡ getD (held (now (columns .entry))) (i .0) ListEnd ⌝ }
 {
-    let kind = number_at(columns, KINDS, i);
-    let a = number_at(columns, FIRSTS, i);
-    let b = number_at(columns, SECONDS, i);
-    let c = number_at(columns, THIRDS, i);
-    node_of(kind, a, b, c)
+    let word = word_at(columns, i);
+    let kind = kind_in(word);
+    let p0 = number_in(word, PLACE_0);
+    let p1 = number_in(word, PLACE_1);
+    let p2 = number_in(word, PLACE_2);
+    let p3 = number_in(word, PLACE_3);
+    let p4 = number_in(word, PLACE_4);
+    node_of(kind, p0, p1, p2, p3, p4)
 }
 
 // At most 24 bytes from a place on, as far as there are any.

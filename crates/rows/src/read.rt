@@ -19,7 +19,7 @@ ghost use Rattle.known.specs.Needs.{met, sound};
 ghost use Rattle.known.specs.Known.{known-of};
 ghost use Rattle.known.specs.Rows.{Noted, has-row};
 
-pub fn collect_free(columns: &[u16; 2049], rows: &[[u64; 7]], i: NodeNo) -> Names
+pub fn collect_free(columns: &[u64; 513], rows: &[[u64; 7]], i: NodeNo) -> Names
     requires { ⌜ (i .0 < length (held (now columns))) × Noted (now columns) (now rows) × (is-condition (tree-of (now columns) (i .0)) ≡ true) ⌝ }
     ensures { λ r. ⌜ mem r ≡ free (condition-of (now (columns .entry)) (i .0)) ⌝ }
 {
@@ -27,7 +27,7 @@ pub fn collect_free(columns: &[u16; 2049], rows: &[[u64; 7]], i: NodeNo) -> Name
     f.free
 }
 
-pub fn collect_term_var(columns: &[u16; 2049], rows: &[[u64; 7]], i: NodeNo) -> Names
+pub fn collect_term_var(columns: &[u64; 513], rows: &[[u64; 7]], i: NodeNo) -> Names
     requires { ⌜ (i .0 < length (held (now columns))) × Noted (now columns) (now rows) × (is-term (tree-of (now columns) (i .0)) ≡ true) ⌝ }
     ensures { λ r. ⌜ mem r ≡ term-free (term-of (now (columns .entry)) (i .0)) ⌝ }
 {
@@ -35,7 +35,7 @@ pub fn collect_term_var(columns: &[u16; 2049], rows: &[[u64; 7]], i: NodeNo) -> 
     f.free
 }
 
-pub fn collect_range_restricted(columns: &[u16; 2049], rows: &[[u64; 7]], i: NodeNo) -> Names
+pub fn collect_range_restricted(columns: &[u64; 513], rows: &[[u64; 7]], i: NodeNo) -> Names
     requires { ⌜ (i .0 < length (held (now columns))) × Noted (now columns) (now rows) × (is-condition (tree-of (now columns) (i .0)) ≡ true) ⌝ }
     ensures { λ r. ⌜ mem r ≡ restricted (condition-of (now (columns .entry)) (i .0)) ⌝ }
 {
@@ -43,7 +43,7 @@ pub fn collect_range_restricted(columns: &[u16; 2049], rows: &[[u64; 7]], i: Nod
     f.restricted
 }
 
-pub fn body_has_sigil(columns: &[u16; 2049], rows: &[[u64; 7]], i: NodeNo) -> bool
+pub fn body_has_sigil(columns: &[u64; 513], rows: &[[u64; 7]], i: NodeNo) -> bool
     requires { ⌜ (i .0 < length (held (now columns))) × Noted (now columns) (now rows) × (is-condition (tree-of (now columns) (i .0)) ≡ true) ⌝ }
     ensures { λ r. ⌜ r ≡ holds-sigil (condition-of (now (columns .entry)) (i .0)) ⌝ }
 {
@@ -52,7 +52,7 @@ pub fn body_has_sigil(columns: &[u16; 2049], rows: &[[u64; 7]], i: NodeNo) -> bo
 }
 
 // Whether no demand below is unmet, with these names tied. A walk goes no further then; it may say no where nothing is found.
-pub fn is_met(columns: &[u16; 2049], rows: &[[u64; 7]], i: NodeNo, tied: Names) -> bool
+pub fn is_met(columns: &[u64; 513], rows: &[[u64; 7]], i: NodeNo, tied: Names) -> bool
     requires { ⌜ (i .0 < length (held (now columns))) × Noted (now columns) (now rows) × (has-row (now columns) (i .0) ≡ true) ⌝ }
     ensures { λ r. ⌜ r ≡ met (known-of (tree-of (now (columns .entry)) (i .0)) .need) (known-of (tree-of (now (columns .entry)) (i .0)) .hard) (mem tied) ⌝ }
 {
@@ -64,7 +64,7 @@ pub fn is_met(columns: &[u16; 2049], rows: &[[u64; 7]], i: NodeNo, tied: Names) 
 
 // Whether no rule of scoping is broken below, with these words reserved and these names in scope.
 pub fn is_sound(
-    columns: &[u16; 2049],
+    columns: &[u64; 513],
     rows: &[[u64; 7]],
     i: NodeNo,
     words: Names,

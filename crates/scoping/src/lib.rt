@@ -23,7 +23,7 @@ ghost use Rattle.scoping.specs.Scoped.{scoped};
 
 // The entries of a condition and of what lies below it, with these names in scope and these reserved. Where there are none, nothing is entered.
 pub fn check_condition(
-    columns: &[u16; 2049],
+    columns: &[u64; 513],
     rows: &[[u64; 7]],
     i: NodeNo,
     scope: Names,
@@ -60,7 +60,7 @@ pub fn check_condition(
 
 // The same of an operand of a comparison, through arithmetic to aggregates. One that is skipped has none.
 pub fn check_operand(
-    columns: &[u16; 2049],
+    columns: &[u64; 513],
     rows: &[[u64; 7]],
     i: NodeNo,
     scope: Names,

@@ -52,7 +52,7 @@ pub fn without_slot(others: Names, slot: Slot) -> Names
 }
 
 // Whether a binder of an aggregate's list is a sigil.
-pub fn has_sigil_binder(columns: &[u16; 2049], i: NodeNo) -> bool
+pub fn has_sigil_binder(columns: &[u64; 513], i: NodeNo) -> bool
     requires { ⌜ Has (now columns) (i .0) ⌝ }
     ensures { λ r. ⌜ r ≡ binder-sigil (binders-of (now (columns .entry)) (i .0)) ⌝ }
 {
@@ -64,7 +64,7 @@ pub fn has_sigil_binder(columns: &[u16; 2049], i: NodeNo) -> bool
 }
 
 // The named binders of an aggregate's list.
-pub fn binder_names(columns: &[u16; 2049], i: NodeNo) -> Names
+pub fn binder_names(columns: &[u64; 513], i: NodeNo) -> Names
     requires { ⌜ Has (now columns) (i .0) ⌝ }
     ensures { λ r. ⌜ mem r ≡ binder-names (binders-of (now (columns .entry)) (i .0)) ⌝ }
 {
@@ -80,7 +80,7 @@ pub fn binder_names(columns: &[u16; 2049], i: NodeNo) -> Names
 }
 
 // The names, and those of an aggregate's binders.
-pub fn with_binders(columns: &[u16; 2049], others: Names, i: NodeNo) -> Names
+pub fn with_binders(columns: &[u64; 513], others: Names, i: NodeNo) -> Names
     requires { ⌜ Has (now columns) (i .0) ⌝ }
     ensures { λ r. ⌜ mem r ≡ mem others ∪ binder-names (binders-of (now (columns .entry)) (i .0)) ⌝ }
 {
@@ -89,7 +89,7 @@ pub fn with_binders(columns: &[u16; 2049], others: Names, i: NodeNo) -> Names
 }
 
 // The names, without those of an aggregate's binders.
-pub fn without_binders(columns: &[u16; 2049], others: Names, i: NodeNo) -> Names
+pub fn without_binders(columns: &[u64; 513], others: Names, i: NodeNo) -> Names
     requires { ⌜ Has (now columns) (i .0) ⌝ }
     ensures { λ r. ⌜ mem r ≡ mem others ∖ binder-names (binders-of (now (columns .entry)) (i .0)) ⌝ }
 {

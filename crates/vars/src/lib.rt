@@ -13,7 +13,7 @@ ghost use Rattle.trees.specs.Trees.{tree-of, term-of};
 ghost use Rattle.trees.specs.Terms.{wildcard-in};
 
 // Of a term, or of the terms of a list.
-pub fn term_contains_wildcard(columns: &[u16; 2049], i: NodeNo) -> bool
+pub fn term_contains_wildcard(columns: &[u64; 513], i: NodeNo) -> bool
     requires { ⌜ Has (now columns) (i .0) ⌝ }
     ensures { λ r. ⌜ r ≡ wildcard-in (tree-of (now (columns .entry)) (i .0)) ⌝ }
 {
@@ -29,7 +29,7 @@ pub fn term_contains_wildcard(columns: &[u16; 2049], i: NodeNo) -> bool
 }
 
 // The variable that is the whole term, if there is one.
-pub fn bare_var(columns: &[u16; 2049], i: NodeNo) -> Subject
+pub fn bare_var(columns: &[u64; 513], i: NodeNo) -> Subject
     requires { ⌜ Has (now columns) (i .0) ⌝ }
     ensures { λ r. ⌜ r ≡ bare (term-of (now (columns .entry)) (i .0)) ⌝ }
 {
@@ -41,7 +41,7 @@ pub fn bare_var(columns: &[u16; 2049], i: NodeNo) -> Subject
 }
 
 // Whether a side of an equality has a value that ties the variable on the other.
-pub fn is_restrictor(columns: &[u16; 2049], i: NodeNo) -> bool
+pub fn is_restrictor(columns: &[u64; 513], i: NodeNo) -> bool
     requires { ⌜ Has (now columns) (i .0) ⌝ }
     ensures { λ r. ⌜ r ≡ ties (term-of (now (columns .entry)) (i .0)) ⌝ }
 {
@@ -54,7 +54,7 @@ pub fn is_restrictor(columns: &[u16; 2049], i: NodeNo) -> bool
 }
 
 // Which side of a comparison is tied to the other's value.
-pub fn eq_restricted_var(columns: &[u16; 2049], op: u8, l: NodeNo, r: NodeNo) -> Tied
+pub fn eq_restricted_var(columns: &[u64; 513], op: u8, l: NodeNo, r: NodeNo) -> Tied
     requires { ⌜ Has (now columns) (l .0) × Has (now columns) (r .0) ⌝ }
     ensures { λ t. ⌜ t ≡ tied op (term-of (now (columns .entry)) (l .0)) (term-of (now (columns .entry)) (r .0)) ⌝ }
 {

@@ -16,7 +16,7 @@ ghost use Rattle.listing.specs.Parts.{Last, listed, Filled};
 
 // Counted first, so that a list without room writes nothing.
 fn list_counted(
-    columns: &[u16; 2049],
+    columns: &[u64; 513],
     rows: &[[u64; 7]],
     i: NodeNo,
     words: Names,
@@ -39,7 +39,7 @@ fn list_counted(
 
 // Written at once where so many entries fit, since there are no more of them.
 fn list_noted(
-    columns: &[u16; 2049],
+    columns: &[u64; 513],
     i: NodeNo,
     words: Names,
     most: usize,
@@ -59,7 +59,7 @@ fn list_noted(
 
 // The entries of the whole list, and how many they are, where there are at most so many. Few nodes take few rows, since rows have to be cleared.
 pub fn list_entries(
-    columns: &[u16; 2049],
+    columns: &[u64; 513],
     i: NodeNo,
     words: Names,
     most: usize,

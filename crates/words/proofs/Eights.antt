@@ -16,7 +16,8 @@ use borrow.Author.Tests.{eqb-true, eqb-false, ltb-true, ltb-false, eq-eqb, ne-eq
 use lib.Dec.{eqb, ltb}
 use lib.ListN.{length, getD, drop}
 use lib.Seq.{drop-cons}
-use Rattle.words.specs.Eights.{eight, turned}
+use Rattle.octets.specs.Eights.{eight}
+use Rattle.words.specs.Eights.{turned}
 use Rattle.words.proofs.Halves.{low, turned-low, eqb-by}
 
 -- ---- one byte more below two numbers

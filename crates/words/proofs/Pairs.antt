@@ -11,7 +11,8 @@ use lib.ListN.{length, drop, drop-of-length-le, replicate}
 use Rattle.paper.specs.Record.{zeros, precedes}
 use Rattle.paper.specs.Scoping.{is-word}
 use Rattle.words.specs.Same.{same}
-use Rattle.words.specs.Eights.{eight, turned}
+use Rattle.octets.specs.Eights.{eight}
+use Rattle.words.specs.Eights.{turned}
 use Rattle.words.proofs.Eights.{Name, higher-ltb, eights}
 
 module _ {a b : List ℕ} (m : Name a) (n : Name b) where

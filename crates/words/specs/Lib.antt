@@ -1,3 +1,3 @@
--- When two names are the same, and a run of their bytes as one number.
+-- When two names are the same, and the bytes of a number the other way round.
 pub mod Same
 pub mod Eights

@@ -1,4 +1,5 @@
 // Names as 24 bytes, zero padded: their form, their order, the reserved words, and a name without its padding.
+use octets::joined_four;
 ghost use mathlib.Core.Path.{_≡_};
 ghost use mathlib.Core.Bool.{_||_};
 ghost use Prim.Native.Nat.{_+_, _*_, _<_, _≤_};
@@ -8,7 +9,8 @@ ghost use Rattle.paper.specs.Record.{letter as letterᵈ, digit, is-name as is-
 ghost use Rattle.paper.specs.Scoping.{is-reserved as is-reservedᵈ};
 ghost use Rattle.paper.specs.TheList.{trimmed};
 ghost use Rattle.words.specs.Same.{same as sameᵈ};
-ghost use Rattle.words.specs.Eights.{four as fourᵈ, eight as eightᵈ, half-turned, turned as turnedᵈ};
+ghost use Rattle.octets.specs.Eights.{four as fourᵈ, eight as eightᵈ};
+ghost use Rattle.words.specs.Eights.{half-turned, turned as turnedᵈ};
 
 // The reserved words, padded as a name is, so that 24 bytes are compared at once.
 const PRINCIPAL: [u8; 24] = *b"principal\0\0\0\0\0\0\0\0\0\0\0\0\0\0\0";
@@ -50,17 +52,11 @@ pub fn is_name(n: [u8; 24]) -> bool
     ok
 }
 
-fn joined(a: u8, b: u8, c: u8, d: u8) -> u64
-    ensures { λ r. ⌜ (r ≡ a + 0x100 * b + 0x10000 * c + 0x1000000 * d) × (r < 0x100000000) ⌝ }
-{
-    (a as u64) + 0x100 * (b as u64) + 0x10000 * (c as u64) + 0x1000000 * (d as u64)
-}
-
 fn four(n: [u8; 24], i: usize) -> u64
     requires { ⌜ i ≤ 20 ⌝ }
     ensures { λ r. ⌜ (r ≡ fourᵈ n i) × (r < 0x100000000) ⌝ }
 {
-    joined(n[i], n[i + 1], n[i + 2], n[i + 3])
+    joined_four(n[i], n[i + 1], n[i + 2], n[i + 3])
 }
 
 // Eight bytes as one number, the first lowest, as the processor has them: the compiler makes one load of it, and keeps a name in three registers.

@@ -1,4 +1,4 @@
--- `fill` goes from node to node: the columns have those before it. Assumes nothing.
+-- `fill` goes from node to node: the words have those before it. Assumes nothing.
 use Prim.Native.Nat.{_-_}
 use native.Mathlib.Omega.{arith}
 use Rattle.memory.proofs.FillLaws.{FirstCopied, none-yet, one-more, all-copied}
@@ -21,11 +21,12 @@ fill-spec =
     (λ c. none-yet (c .before .pre .0) (c .before .pre .1))
     (λ c. let p = c .before .loop .inv in let f = p .few in let t = c .loop-test .taken in omega arith)
     (λ c. let p = c .before .loop .inv in let f = p .few in let t = c .loop-test .taken in omega arith)
-    (λ c. let p = c .before .loop .inv in let f = p .few in let t = c .loop-test .taken in omega arith)
     (λ c κs. tt)
-    (λ c κs. let l = c .before .before .before .before in let f = l .loop .inv .few in let t = c .before .before .before .loop-test .taken in (c .before .long .ensures .1, l .loop .inv .long, omega arith))
-    (λ c. let t = c .before .before .before .before .loop-test .taken in omega arith)
-    (λ c. let l = c .before .before .before .before .before in one-more (l .loop .inv) (c .before .before .before .before .loop-test .taken) (c .before .before .long .ensures .0) (c .copy-node .ensures))
-    (λ c. let f = c .before .loop .inv .few in omega arith)
-    (λ c. search needs)
+    (λ c κs. c .long .ensures .1)
+    (λ c. let l = c .before .before .before .before .loop in let f = l .inv .few in let t = c .before .before .before .loop-test .taken in omega arith)
+    (λ c. let l = c .before .before .before .before .loop in let f = l .inv .few in let g = l .inv .long in let t = c .before .before .before .loop-test .taken in omega arith)
+    (λ c. let l = c .before .before .before .before .loop in let f = l .inv .few in let t = c .before .before .before .loop-test .taken in omega arith)
+    (λ c. let t = c .before .before .before .loop-test .taken in omega arith)
+    (λ c. let l = c .before .before .before .before in one-more (l .loop .inv) (c .before .before .before .loop-test .taken) (c .before .long .ensures .0) (λ i. l .before .shared-slice-known .given i .fits) (c .eight .ensures))
+    (λ c. let l = c .before .loop .inv .long in omega arith)
     (λ c. all-copied (c .before .loop .inv) (c .loop-test .left)))

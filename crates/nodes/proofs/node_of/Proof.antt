@@ -1,5 +1,6 @@
--- Each arm of `node_of` takes the fields of its kind from their columns, and the last has the kinds that carry nothing.
-use Rattle.memory.specs.Columns.{node-said}
+-- Each arm of `node_of` takes the fields of its kind from its word, and the last has the kinds that carry nothing.
+use mathlib.Core.List.{[], _∷_}
+use Rattle.memory.specs.Columns.{node-told}
 use Rattle.memory.proofs.NodeLaws.{arms}
 use Rattle.memory.proofs.Unnamed.{Rest, last-arm}
 use Rattle.nodes.proofs.node_of.Statement.{statement}
@@ -7,7 +8,7 @@ use Rattle.nodes.proofs.node_of.Tie as tie
 
 -- in order: no reader asks anything of its caller; the arms, as the source has them
 pub node-of-spec : {M : Type 1} → statement M
-unfolding node-said Rest
+unfolding node-told Rest
 node-of-spec =
     tie.close
     (tie.spec
@@ -50,4 +51,4 @@ node-of-spec =
     (λ c. search arms)
     (λ c. search arms)
     (λ c. search arms)
-    (λ c. last-arm _ _ (c .match .rest)))
+    (λ c. let a = c .before .args in last-arm _ (a .p0 ∷ a .p1 ∷ a .p2 ∷ a .p3 ∷ a .p4 ∷ []) (c .match .rest)))

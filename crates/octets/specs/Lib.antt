@@ -1,0 +1,2 @@
+-- A run of bytes as one number.
+pub mod Eights
