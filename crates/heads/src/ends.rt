@@ -8,19 +8,18 @@ use octets::long;
 use octets::number;
 use paper::Verdict;
 
-// Whether each of the first n nodes is marked.
+// Whether each of the first n nodes is marked. No branch depends on a mark, so that the compiler tests many at once.
 fn all_marked(used: &[u8; 512], n: usize) -> bool
     requires { ⌜ n ≤ 512 ⌝ }
     ensures { λ r. ⌜ r ≡ all-below n (marks (now (used .entry))) ⌝ }
 {
     let mut i: usize = 0;
+    let mut all = true;
     while i < n {
-        if used[i] == 0 {
-            return false;
-        }
+        all = (used[i] != 0) & all;
         i = i + 1;
     }
-    true
+    all
 }
 
 fn turned_away(number: u8, offset: usize) -> Verdict

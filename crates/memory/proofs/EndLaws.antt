@@ -1,10 +1,9 @@
 -- The end record over the arrays says what the definitions say of it. Assumes nothing.
 use mathlib.Core.Path.{_≡_, refl, ap₂}
-use mathlib.Core.Bool.{Bool, true, false, not, _&&_, and-false}
+use mathlib.Core.Bool.{Bool, true, false, not, _&&_}
 use mathlib.Core.List.{List}
 use Prim.Native.Nat.{ℕ, zero, suc, _+_, _-_, _<_, _≤_}
 use native.Mathlib.Omega.{arith}
-use native.Mathlib.Decide.{decLt}
 use native.Mathlib.Numerals.{add-one}
 use lib.Dec.{eqb}
 use lib.ListN.{length, getD, length-map}
@@ -16,18 +15,9 @@ use Rattle.memory.specs.Ends.{marks, rooted-in, ended-in}
 
 -- ---- all below a number
 
-pub all-stop : (n : ℕ) (a : Set) (i : ℕ) → i < n → a i ≡ false → all-below n a ≡ false
+pub all-next : (i : ℕ) (a : Set) {t : Bool} → t ≡ all-below i a → (a i && t) ≡ all-below (i + 1) a
 unfolding all-below
-all-stop zero a i h e = absurd (omega arith)
-all-stop (suc n) a i h e = go (all-stop n a i) (decLt i n)
-  where
-    go : (i < n → a i ≡ false → all-below n a ≡ false) → Dec (i < n) → (a n && all-below n a) ≡ false
-    go f (yes l) = rw (f l e) (and-false (a n))
-    go f (no l) = let d : i ≡ n = omega arith in rw (← d, e)
-
-pub all-more : (i : ℕ) (a : Set) → all-below i a ≡ true → a i ≡ true → all-below (i + 1) a ≡ true
-unfolding all-below
-all-more i a e d = rw (add-one, d, e)
+all-next i a e = rw (add-one, e)
 
 all-same : (n : ℕ) (a b : Set) → ((k : ℕ) → k < n → a k ≡ b k) → all-below n a ≡ all-below n b
 unfolding all-below
