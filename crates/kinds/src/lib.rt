@@ -2,7 +2,7 @@
 use memory::Row;
 ghost use mathlib.Core.Path.{_≡_};
 ghost use Rattle.paper.specs.Record.{fits as fits-sort};
-ghost use Rattle.memory.specs.Rows.{unpacked, row-at};
+ghost use Rattle.memory.specs.Rows.{unpacked, row-at, fitting as fitting-sort};
 ghost use Rattle.memory.specs.Fields.{sort-of};
 
 // A row in one number, in hex from the left: one digit of class, two of len, one of range, one each of sort1 and at1, of sort2 and at2. So And, a node
@@ -65,15 +65,25 @@ pub fn row_of(kind: u8) -> Row
     }
 }
 
-// Whether a node of a kind fits a sort: 1 a condition, 2 a term, 3 arguments, 4 items, any other binders.
+// The kinds that fit a sort, a bit for each: 1 a condition, 2 a term, 3 arguments, 4 items, any other binders.
+fn fitting(sort: u8) -> u64
+    ensures { λ r. ⌜ r ≡ fitting-sort (sort-of sort) ⌝ }
+{
+    match sort {
+        1 => 0x1FFF_0000,
+        2 => 0xFFF_0000_0000,
+        3 => 0x3_0000_0000_0000,
+        4 => 0x5_0000_0000_0000,
+        _ => 0x9_0000_0000_0000,
+    }
+}
+
+// Whether a node of a kind fits a sort. No branch depends on the sort, which no processor foresees.
 pub fn fits(sort: u8, kind: u8) -> bool
     ensures { λ r. ⌜ r ≡ fits-sort (sort-of sort) kind ⌝ }
 {
-    match sort {
-        1 => (0x10 <= kind) & (kind <= 0x1C),
-        2 => (0x20 <= kind) & (kind <= 0x2B),
-        3 => (kind == 0x30) | (kind == 0x31),
-        4 => (kind == 0x30) | (kind == 0x32),
-        _ => (kind == 0x30) | (kind == 0x33),
+    if 64 <= kind {
+        return false;
     }
+    (fitting(sort) >> kind) & 1 == 1
 }

@@ -1,13 +1,18 @@
--- The number of each kind's row unpacks to the definitions' row: one computed claim over the kinds, and one for every other byte. Assumes nothing.
+-- The number of each kind's row unpacks to the definitions' row: one computed claim over the kinds, and one for every other byte. And the kinds that fit a sort, as
+-- bits of a number. Assumes nothing.
 use mathlib.Core.Path.{_≡_, sym, ap, _∙_, refl}
+use mathlib.Core.Bool.{Bool, true, false, not, and-false}
 use mathlib.Core.List.{List, [], _∷_, _++_, map}
-use Prim.Native.Nat.{ℕ, _≤_}
+use Prim.Native.Nat.{ℕ, _<_, _≤_}
 use native.Mathlib.Omega.{arith}
-use borrow.Author.Tests.{ne-eqb, le-ltb}
+use borrow.Author.Tests.{ne-eqb, lt-leb, le-ltb}
 use lib.Dec.{ltb}
 use lib.ListN.{getD, List·getD-map}
-use Rattle.paper.specs.Record.{field-bytes, body-length, kinds, node-kind, announced, slot-of}
-use Rattle.memory.specs.Rows.{placed, references, first-range, row-for, row-at, unpacked}
+use Rattle.paper.specs.Sets.{all-below}
+use Rattle.paper.proofs.SetLaws.{all-get}
+use Rattle.names.specs.Words.{bit}
+use Rattle.paper.specs.Record.{Sort, condition, term, arguments, items, binders, fits, field-bytes, body-length, kinds, node-kind, announced, slot-of}
+use Rattle.memory.specs.Rows.{placed, references, first-range, row-for, row-at, unpacked, fitting}
 use Rattle.memory.specs.declared.Row.{Row}
 use Rattle.memory.proofs.Unnamed.{conditions, terms, cells, Away, Rest, rest-away, all?, away-by, no-kind}
 
@@ -49,3 +54,33 @@ row-none k X m h = none k (rest-away low k X m .1) (λ e. omega arith)
 pub row-above : (k : ℕ) → 64 ≤ k → (k ≡ 0x7F → ⊥) → unpacked 0 ≡ row-at k
 unfolding all?
 row-above k h n = none k (away-by (λ i. ltb i 64) low k refl (le-ltb k 64 h)) n
+
+-- ---- the kinds that fit a sort
+
+agree : Bool → Bool → Bool
+agree true t = t
+agree false t = not t
+
+agreed : (a b : Bool) → agree a b ≡ true → a ≡ b
+unfolding agree
+agreed true true e = refl
+agreed true false e = sym e
+agreed false true e = e
+agreed false false e = refl
+
+-- below 64 one computed claim for each sort
+pub fit-low : (s : Sort) (k : ℕ) → k < 64 → bit (fitting s) k ≡ fits s k
+unfolding all-below agree fitting fits bit
+fit-low condition k h = agreed (bit (fitting condition) k) (fits condition k) (all-get 64 (λ n. agree (bit (fitting condition) n) (fits condition n)) refl k h)
+fit-low term k h = agreed (bit (fitting term) k) (fits term k) (all-get 64 (λ n. agree (bit (fitting term) n) (fits term n)) refl k h)
+fit-low arguments k h = agreed (bit (fitting arguments) k) (fits arguments k) (all-get 64 (λ n. agree (bit (fitting arguments) n) (fits arguments n)) refl k h)
+fit-low items k h = agreed (bit (fitting items) k) (fits items k) (all-get 64 (λ n. agree (bit (fitting items) n) (fits items n)) refl k h)
+fit-low binders k h = agreed (bit (fitting binders) k) (fits binders k) (all-get 64 (λ n. agree (bit (fitting binders) n) (fits binders n)) refl k h)
+
+pub fit-high : (s : Sort) (k : ℕ) → 64 ≤ k → fits s k ≡ false
+unfolding fits
+fit-high condition k h = rw (lt-leb k 0x1C (omega arith), and-false)
+fit-high term k h = rw (lt-leb k 0x2B (omega arith), and-false)
+fit-high arguments k h = rw (ne-eqb k 0x30 (λ e. omega arith), ne-eqb k 0x31 (λ e. omega arith))
+fit-high items k h = rw (ne-eqb k 0x30 (λ e. omega arith), ne-eqb k 0x32 (λ e. omega arith))
+fit-high binders k h = rw (ne-eqb k 0x30 (λ e. omega arith), ne-eqb k 0x33 (λ e. omega arith))

@@ -38,6 +38,14 @@ sort-code arguments = 3
 sort-code items = 4
 sort-code binders = 5
 
+-- the kinds that fit a sort, a bit for each
+unfoldable pub fitting : Sort → ℕ
+fitting condition = 0x1FFF0000
+fitting term = 0xFFF00000000
+fitting arguments = 0x3000000000000
+fitting items = 0x5000000000000
+fitting binders = 0x9000000000000
+
 -- a field's number where it is looked at for its range, and 0 for others
 abbrev pub range-code : Field → ℕ
 range-code (to s) = 0

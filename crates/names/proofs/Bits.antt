@@ -118,7 +118,7 @@ no-bit zero w h f = omega arith
 no-bit (suc n) w h f = no-bit n w (fits-less w n h (f n (omega arith))) (λ k l. f k (omega arith))
 
 -- a bit is read by a shift and a mask
-bit-read : (x n : ℕ) → eqb (bitAnd (x / 2 ^ n) 1) 1 ≡ bit x n
+pub bit-read : (x n : ℕ) → eqb (bitAnd (x / 2 ^ n) 1) 1 ≡ bit x n
 unfolding bit
 bit-read x n = ap (λ (y : ℕ). eqb y 1) (and-mask (x / 2 ^ n) 1)
 

@@ -1,28 +1,19 @@
-use borrow.Author.Tests.{ne-eqb}
-use Rattle.paper.specs.Record.{fits}
+-- `fits` reads the bit of a kind, and none from 64 on fits. Assumes nothing.
+use mathlib.Core.Path.{sym, ap, _∙_}
+use Prim.Native.Nat.{ℕ}
+use borrow.Author.Needs.{needs}
+use Rattle.names.specs.Words.{bit}
+use Rattle.names.proofs.Bits.{bit-read}
+use Rattle.memory.proofs.RowLaws.{fit-low, fit-high}
 use Rattle.kinds.proofs.fits.Statement.{statement}
 use Rattle.kinds.proofs.fits.Tie as tie
 
 returns : tie.Need-returns
-unfolding fits
-returns c = rw (c .match .keys1)
+returns c = sym (fit-high _ _ (c .if1 .taken))
 
 returns-2 : tie.Need-returns-2
-unfolding fits
-returns-2 c = rw (c .match .keys2)
-
-returns-3 : tie.Need-returns-3
-unfolding fits
-returns-3 c = rw (c .match .keys3)
-
-returns-4 : tie.Need-returns-4
-unfolding fits
-returns-4 c = rw (c .match .keys4)
-
-returns-5 : tie.Need-returns-5
-unfolding fits
-returns-5 c =
-    let m = c .match .rest in rw (ne-eqb _ 1 (m .0 .0 .0 .1), ne-eqb _ 2 (m .0 .0 .1), ne-eqb _ 3 (m .0 .1), ne-eqb _ 4 (m .1))
+returns-2 c =
+    bit-read _ _ ∙ ap (λ (m : ℕ). bit m (c .before .before .args .kind)) (c .fitting .ensures) ∙ fit-low _ _ (search needs)
 
 pub fits-spec : {M : Type 1} → statement M
-fits-spec = tie.close (tie.spec returns returns-2 returns-3 returns-4 returns-5)
+fits-spec = tie.close (tie.spec returns (λ c κs. search needs) (λ c. search needs) returns-2)
