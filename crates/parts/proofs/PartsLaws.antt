@@ -8,7 +8,7 @@ use Rattle.memory.specs.Columns.{node-said}
 use Rattle.memory.proofs.Unnamed.{conditions, terms, cells, Rest, rest-away, all?, among?, away-among, away-both, of-each, says-end}
 use Rattle.known.specs.declared.Parts.{Parts}
 use Rattle.known.specs.declared.Parts.the-variants.{Leaf}
-use Rattle.known.specs.Known.{parts-of}
+use Rattle.known.specs.Known.{parts-of, cell-of}
 
 pub parts-arm : (k n : ℕ) (xs : List ℕ) (t : Parts) → k ≡ n → t ≡ parts-of (node-said (announced n) xs) → t ≡ parts-of (node-said (announced k) xs)
 parts-arm k n xs t e h = h ∙ ap (λ (m : ℕ). parts-of (node-said (announced m) xs)) (sym e)
@@ -28,3 +28,23 @@ leaf-arm k xs m =
     (refl, (refl, (refl, (refl, (refl, (refl, (refl, (refl, (refl, (refl, (refl, (refl, tt))))))))))))
     (λ a. ap parts-of (sym (says-end k xs (away-among ((conditions ++ terms) ++ cells) (branching ++ leaves) k refl
     (away-both branching leaves k (rest-away branching k (Unit {0}) m .1) a)) (eqb k 0x30) refl)))
+
+-- ---- along a list
+
+pub cell-arm : (k n : ℕ) (xs : List ℕ) (t : Parts) → k ≡ n → t ≡ cell-of (node-said (announced n) xs) → t ≡ cell-of (node-said (announced k) xs)
+cell-arm k n xs t e h = h ∙ ap (λ (m : ℕ). cell-of (node-said (announced m) xs)) (sym e)
+
+-- the kinds of cells, and those of no cell but for 0x30
+abbrev pub cell-kinds : List ℕ
+cell-kinds = 0x31 ∷ 0x32 ∷ []
+
+abbrev no-cells : List ℕ
+no-cells = (conditions ++ terms) ++ (0x33 ∷ [])
+
+pub end-arm : (k : ℕ) (xs : List ℕ) → Rest cell-kinds k (Unit {0}) → Leaf ≡ cell-of (node-said (announced k) xs)
+unfolding node-said cell-of all? among?
+end-arm k xs m =
+    of-each (λ n. Leaf ≡ cell-of (node-said (announced n) xs)) no-cells k
+    (refl, (refl, (refl, (refl, (refl, (refl, (refl, (refl, (refl, (refl, (refl, (refl, (refl, (refl, (refl, (refl, (refl, (refl, (refl, (refl, (refl, (refl, (refl, (refl, (refl, (refl, tt))))))))))))))))))))))))))
+    (λ a. ap cell-of (sym (says-end k xs (away-among ((conditions ++ terms) ++ cells) (cell-kinds ++ no-cells) k refl
+    (away-both cell-kinds no-cells k (rest-away cell-kinds k (Unit {0}) m .1) a)) (eqb k 0x30) refl)))

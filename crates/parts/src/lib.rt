@@ -14,7 +14,7 @@ ghost use Rattle.paper.specs.declared.Node.the-variants.{ListEnd};
 ghost use Rattle.paper.specs.Record.{announced};
 ghost use Rattle.memory.specs.Columns.{node-said};
 ghost use Rattle.record.specs.Stored.{held, Has};
-ghost use Rattle.known.specs.Known.{parts-of};
+ghost use Rattle.known.specs.Known.{parts-of, cell-of};
 ghost use Rattle.parts.specs.Entered.{entered-below};
 
 // Where a walk goes on below a condition.
@@ -59,6 +59,29 @@ pub fn parts_at(columns: &[u16; 2049], i: NodeNo) -> Parts
     let b = number_at(columns, SECONDS, i);
     let c = number_at(columns, THIRDS, i);
     parts_in(kind, a, b, c)
+}
+
+// The term and the rest of a list's cell, where its kind and its fields are these; nothing at the list's end.
+fn cell_in(kind: u16, first: u16, second: u16, third: u16) -> Parts
+    ensures { λ r. ⌜ r ≡ cell-of (node-said (announced kind) (first ∷ second ∷ third ∷ [])) ⌝ }
+{
+    match kind {
+        0x31 => Parts::Then(NodeNo(second), NodeNo(third)),
+        0x32 => Parts::Then(NodeNo(first), NodeNo(second)),
+        _ => Parts::Leaf,
+    }
+}
+
+// Asked along a list, where no other node stands, in place of all the kinds that `parts_at` tells apart.
+pub fn cell_at(columns: &[u16; 2049], i: NodeNo) -> Parts
+    requires { ⌜ Has (now columns) (i .0) ⌝ }
+    ensures { λ r. ⌜ r ≡ cell-of (getD (held (now (columns .entry))) (i .0) ListEnd) ⌝ }
+{
+    let kind = number_at(columns, KINDS, i);
+    let first = number_at(columns, FIRSTS, i);
+    let second = number_at(columns, SECONDS, i);
+    let third = number_at(columns, THIRDS, i);
+    cell_in(kind, first, second, third)
 }
 
 // The conditions or the operands of a condition; a refinement's fields and a predicate's arguments are not entered.
