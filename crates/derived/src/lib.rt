@@ -1,14 +1,15 @@
 // A node's facts from those of its parts, by its kind: a function for each number of parts.
 use known::Facts;
-use memory::FIRSTS;
-use memory::KINDS;
-use memory::SECONDS;
+use memory::PLACE_0;
+use memory::PLACE_2;
+use nodes::kind_in;
 use nodes::lower;
+use nodes::number_in;
 use nodes::slot_in;
 use paper::NameNo;
 use paper::NodeNo;
 use paper::Slot;
-use record::access::number_at;
+use record::access::word_at;
 use rows::row::facts_at;
 use slots::binder_names;
 use slots::has_sigil_binder;
@@ -33,6 +34,7 @@ use together::timed;
 use vars::eq_restricted_var;
 ghost use mathlib.Core.Path.{_≡_};
 ghost use mathlib.Core.Bool.{_||_};
+ghost use mathlib.Core.List.{[], _∷_};
 ghost use Rattle.record.specs.Stored.{Has};
 ghost use Rattle.paper.specs.Sets.{outside};
 ghost use Rattle.paper.specs.FreeAndRestricted.{is-sigil, binder-names};
@@ -40,8 +42,8 @@ ghost use Rattle.paper.specs.Scoping.{binder-sigil};
 ghost use Rattle.trees.specs.Trees.{tree-of, binders-of};
 ghost use Rattle.trees.specs.Terms.{Tabled};
 ghost use Rattle.known.specs.Needs.{slot-in};
-ghost use Rattle.known.specs.declared.Parts.the-variants.{Leaf, One, Two, List, Then};
-ghost use Rattle.known.specs.Known.{parts-of, own, gathered as gathered-facts};
+ghost use Rattle.known.specs.declared.Parts.the-variants.{Leaf};
+ghost use Rattle.known.specs.Known.{parts-of, nodes-of, own, gathered as gathered-facts};
 ghost use Rattle.known.specs.Rows.{meant, facts-at, node-of, Sound};
 
 // What is known of a node that has no parts.
@@ -49,8 +51,9 @@ pub fn leaf_facts(columns: &[u64; 513], i: NodeNo) -> Facts
     requires { ⌜ Has (now columns) (i .0) × (Leaf ≡ parts-of (node-of (now columns) (i .0))) ⌝ }
     ensures { λ f. ⌜ meant f ≡ own (tree-of (now (columns .entry))) (node-of (now (columns .entry)) (i .0)) ⌝ }
 {
-    let kind = number_at(columns, KINDS, i);
-    let a = number_at(columns, FIRSTS, i);
+    let word = word_at(columns, i);
+    let kind = kind_in(word);
+    let a = number_in(word, PLACE_0);
     match kind {
         0x1A => {
             let slot = slot_in(a);
@@ -105,23 +108,29 @@ fn summed(columns: &[u64; 513], body: Facts, slot: Slot, list: NodeNo) -> Facts
     gathered(columns, body, list, sigil | skipped, !summed)
 }
 
-// What is known of a node that has one part.
-pub fn one_facts(columns: &[u64; 513], rows: &[[u64; 7]], i: NodeNo, b: NodeNo) -> Facts
-    requires { ⌜ Has (now columns) (i .0) × (One b ≡ parts-of (node-of (now columns) (i .0))) × Sound (now columns) (now rows) (node-of (now columns) (i .0)) ⌝ }
+// What is known of a node that has one part: a condition, or a list.
+pub fn over_facts(columns: &[u64; 513], rows: &[[u64; 7]], i: NodeNo, b: NodeNo) -> Facts
+    requires { ⌜ Has (now columns) (i .0) × (nodes-of (parts-of (node-of (now columns) (i .0))) ≡ b .0 ∷ []) × Sound (now columns) (now rows) (node-of (now columns) (i .0)) ⌝ }
     ensures { λ f. ⌜ meant f ≡ own (tree-of (now (columns .entry))) (node-of (now (columns .entry)) (i .0)) ⌝ }
 {
     let body = facts_at(rows, b);
-    let kind = number_at(columns, KINDS, i);
-    let a = number_at(columns, FIRSTS, i);
+    let word = word_at(columns, i);
+    let kind = kind_in(word);
+    let a = number_in(word, PLACE_0);
     match kind {
         0x12 => loose(body),
         0x16 => {
             let slot = slot_in(a);
             bound(body, slot)
         }
+        0x18 => searched(body, body.restricted),
+        0x27 => {
+            let none = names::empty();
+            searched(body, none)
+        }
         0x29 => {
             let slot = slot_in(a);
-            let list = number_at(columns, SECONDS, i);
+            let list = number_in(word, PLACE_2);
             summed(columns, body, slot, NodeNo(list))
         }
         0x2A => {
@@ -132,59 +141,26 @@ pub fn one_facts(columns: &[u64; 513], rows: &[[u64; 7]], i: NodeNo, b: NodeNo) 
     }
 }
 
-// What is known of a node that has two parts.
-pub fn two_facts(columns: &[u64; 513], rows: &[[u64; 7]], i: NodeNo, l: NodeNo, r: NodeNo) -> Facts
-    requires { ⌜ Has (now columns) (i .0) × (Two l r ≡ parts-of (node-of (now columns) (i .0))) × Sound (now columns) (now rows) (node-of (now columns) (i .0)) ⌝ }
+// What is known of a node that has two parts: conditions or terms, or one and a list.
+pub fn pair_facts(columns: &[u64; 513], rows: &[[u64; 7]], i: NodeNo, l: NodeNo, r: NodeNo) -> Facts
+    requires { ⌜ Has (now columns) (i .0) × (nodes-of (parts-of (node-of (now columns) (i .0))) ≡ l .0 ∷ r .0 ∷ []) × Sound (now columns) (now rows) (node-of (now columns) (i .0)) ⌝ }
     ensures { λ f. ⌜ meant f ≡ own (tree-of (now (columns .entry))) (node-of (now (columns .entry)) (i .0)) ⌝ }
 {
     let left = facts_at(rows, l);
     let right = facts_at(rows, r);
-    let kind = number_at(columns, KINDS, i);
+    let word = word_at(columns, i);
+    let kind = kind_in(word);
     match kind {
         0x10 => and_facts(left, right),
         0x11 => or_facts(left, right),
         0x15 => since_facts(left, right),
         0x17 => {
-            let op = lower(number_at(columns, FIRSTS, i));
+            let op = lower(number_in(word, PLACE_0));
             let side = eq_restricted_var(columns, op, l, r);
             compared(side, left, right)
         }
-        _ => arith_facts(left, right),
-    }
-}
-
-// What is known of a predicate or an array, from its list.
-pub fn list_facts(columns: &[u64; 513], rows: &[[u64; 7]], i: NodeNo, list: NodeNo) -> Facts
-    requires { ⌜ Has (now columns) (i .0) × (List list ≡ parts-of (node-of (now columns) (i .0))) × Sound (now columns) (now rows) (node-of (now columns) (i .0)) ⌝ }
-    ensures { λ f. ⌜ meant f ≡ own (tree-of (now (columns .entry))) (node-of (now (columns .entry)) (i .0)) ⌝ }
-{
-    let terms = facts_at(rows, list);
-    let kind = number_at(columns, KINDS, i);
-    match kind {
-        0x18 => searched(terms, terms.restricted),
-        _ => {
-            let none = names::empty();
-            searched(terms, none)
-        }
-    }
-}
-
-// What is known of a refinement, or of a cell of a list.
-pub fn then_facts(
-    columns: &[u64; 513],
-    rows: &[[u64; 7]],
-    i: NodeNo,
-    first: NodeNo,
-    list: NodeNo,
-) -> Facts
-    requires { ⌜ Has (now columns) (i .0) × (Then first list ≡ parts-of (node-of (now columns) (i .0))) × Sound (now columns) (now rows) (node-of (now columns) (i .0)) ⌝ }
-    ensures { λ f. ⌜ meant f ≡ own (tree-of (now (columns .entry))) (node-of (now (columns .entry)) (i .0)) ⌝ }
-{
-    let base = facts_at(rows, first);
-    let fields = facts_at(rows, list);
-    let kind = number_at(columns, KINDS, i);
-    match kind {
-        0x19 => refined(base, fields),
-        _ => join_facts(base, fields),
+        0x19 => refined(left, right),
+        0x28 => arith_facts(left, right),
+        _ => join_facts(left, right),
     }
 }

@@ -1,7 +1,7 @@
 -- A list, cell by cell: its facts are those of its terms, joined. Assumes nothing.
 use mathlib.Core.Path.{_≡_, refl, sym, ap, _∙_, subst}
 use mathlib.Core.Logic.{_⊎_, ⊎-elim, inl, inr}
-use mathlib.Core.Bool.{true, true≢false}
+use mathlib.Core.Bool.{true, false, true≢false}
 use mathlib.Core.List.{List, [], _∷_}
 use Prim.Native.Nat.{ℕ, _<_}
 use types.Run.{OneOf, miss}
@@ -19,11 +19,12 @@ use Rattle.paper.proofs.Weights.{of-sort}
 use Rattle.record.specs.Stored.{Has}
 use Rattle.trees.specs.Trees.{tree-of, is-row}
 use Rattle.trees.proofs.Arms.{Child}
+use Rattle.trees.proofs.ByKind.{by-kind}
 use Rattle.known.specs.declared.Parts.{Parts}
 use Rattle.known.specs.declared.Parts.the-variants as parts
 use Rattle.known.specs.declared.Facts.{Facts}
 use Rattle.known.proofs.Parts.{the-type}
-use Rattle.known.specs.Known.{Known, nothing, both, join, known-of, parts-of, nodes-of, way, from-parts, own}
+use Rattle.known.specs.Known.{Known, nothing, both, join, known-of, parts-of, cell-of, nodes-of, way, from-parts, own}
 use Rattle.known.specs.Rows.{meant, Right, has-row, node-of, Put, Kept, Reaches, Gathered}
 use Rattle.known.proofs.KnownLaws.{planted-known, join-nothing, join-assoc}
 use Rattle.known.proofs.PartLaws.{Held, held, known-arm, reached-in, row-unread}
@@ -77,6 +78,21 @@ ended t k (parts.Two l r) c h = absurd c
 ended t k (parts.List l) c h = absurd c
 ended t k (parts.Then x l) c h = absurd (miss (0 ∷ 1 ∷ 2 ∷ 3 ∷ []) 4 tt h)
 
+-- at a list's place a cell's term and rest are its parts, and the end has none
+cell-parts : (t : ℕ → Tree) (n : NodeNo) (m : Node) → is-row (planted t n m) ≡ true → cell-of m ≡ parts-of m
+unfolding planted is-row parts-of cell-of
+cell-parts t n =
+    by-kind (λ m. is-row (planted t n m) ≡ true → cell-of m ≡ parts-of m)
+    (λ l r. no-row) (λ l r. no-row) (λ b. no-row) (λ b w. no-row) (λ b w. no-row) (λ l r w. no-row) (λ s y b. no-row) (λ o l r. no-row) (λ a l. no-row)
+    (λ b l. no-row) (λ s e. refl) (λ y e. refl) (λ y e. refl) (λ x e. refl) (λ e. refl) (λ y e. refl) (λ y e. refl) (λ y e. refl) (λ k e. refl) (λ k e. refl)
+    (λ l. no-row) (λ o l r. no-row) (λ s l b. no-row) (λ l b. no-row) (λ y e. refl) (λ e. refl) (λ f x l e. refl) (λ x l e. refl) (λ s y l e. refl)
+  where
+    no-row : {Q : Type 0} → false ≡ true → Q
+    no-row e = absurd (true≢false (sym e))
+
+pub cell-is : {columns : List ℕ} {at : ℕ} → Has columns at → is-row (tree-of columns at) ≡ true → cell-of (node-of columns at) ≡ parts-of (node-of columns at)
+cell-is {columns} {at} h r = cell-parts (tree-of columns) (node-no at) (node-of columns at) (ap is-row (sym (known-arm at h .tree)) ∙ r)
+
 -- ---- going along a list
 
 -- what stands before the cell at `at` is right, and `all` is what its terms have
@@ -94,7 +110,10 @@ along-start {columns} {list = list} e h r =
     record { kept = kept-same; has = h; row = r; joined = ap (λ (z : Known). join z (known-of (tree-of columns list))) e; passed = λ k s t. inr s }
 
 module _ {columns : List ℕ} {before rows : List (List ℕ)} {all : Known} {list at : ℕ} {m : Node} {p : Parts} (a : Along columns before rows all list at)
-    (is : m ≡ node-of columns at) (of : p ≡ parts-of m) where
+    (is : m ≡ node-of columns at) (cell-at : p ≡ cell-of m) where
+  of : p ≡ parts-of m
+  of = cell-at ∙ ap cell-of is ∙ cell-is (a .has) (a .row) ∙ ap parts-of (sym is)
+
   here : Cell (tree-of columns) (known-of (tree-of columns at)) p
   here =
       let arm = known-arm at (a .has) in
@@ -114,7 +133,7 @@ module _ {columns : List ℕ} {before rows : List (List ℕ)} {all : Known} {lis
 
 -- the next cell
 pub along-step : {columns : List ℕ} {before rows after : List (List ℕ)} {all more : Known} {list at : ℕ} {m : Node} {x rest : NodeNo}
-    → Along columns before rows all list at → m ≡ node-of columns at → parts.Then x rest ≡ parts-of m → Gathered columns rows after (x .0)
+    → Along columns before rows all list at → m ≡ node-of columns at → parts.Then x rest ≡ cell-of m → Gathered columns rows after (x .0)
     → more ≡ join all (known-of (tree-of columns (x .0))) → Along columns before after more list (rest .0)
 along-step {columns} {after = after} {all} {list = list} {x = x} {rest} a is of g e =
     let u = parts-held a is of in
@@ -133,7 +152,7 @@ along-step {columns} {after = after} {all} {list = list} {x = x} {rest} a is of 
 
 -- the end of the list
 pub along-end : {columns : List ℕ} {before rows after : List (List ℕ)} {list at : ℕ} {m : Node} {p : Parts} {f : Facts}
-    → Along columns before rows (meant f) list at → m ≡ node-of columns at → p ≡ parts-of m → OneOf (0 ∷ 1 ∷ 2 ∷ 3 ∷ []) (tagOf the-type p)
+    → Along columns before rows (meant f) list at → m ≡ node-of columns at → p ≡ cell-of m → OneOf (0 ∷ 1 ∷ 2 ∷ 3 ∷ []) (tagOf the-type p)
     → list < length rows → Put rows list f after → Gathered columns before after list
 along-end {columns} {rows = rows} {after} {list} {at} {p = p} {f} a is of h l put =
     let done = ended (tree-of columns) (known-of (tree-of columns at)) p (here a is of) h in

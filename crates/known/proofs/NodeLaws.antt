@@ -23,12 +23,12 @@ use Rattle.known.proofs.RowLaws.{kept-same, kept-then, put-right, gathe
 
 -- ---- the parts of a node
 
-parts-below : (columns : List ℕ) (i : ℕ) (p : Parts) → Held columns i p → All (λ k. k < i) (nodes-of p)
-parts-below columns i parts.Leaf h = tt
-parts-below columns i (parts.One b) h = (h .0, tt)
-parts-below columns i (parts.Two l r) h = (h .0 .0, (h .1 .0, tt))
-parts-below columns i (parts.List l) h = (h .0 .0, tt)
-parts-below columns i (parts.Then b l) h = (h .0 .0, (h .1 .0, tt))
+parts-under : (columns : List ℕ) (i : ℕ) (p : Parts) → Held columns i p → All (λ k. (k < i) × Has columns k) (nodes-of p)
+parts-under columns i parts.Leaf h = tt
+parts-under columns i (parts.One b) h = (h, tt)
+parts-under columns i (parts.Two l r) h = (h .0, (h .1, tt))
+parts-under columns i (parts.List l) h = (h .0, tt)
+parts-under columns i (parts.Then b l) h = (h .0, (h .1, tt))
 
 module _ {columns : List ℕ} {i : ℕ} {m : Node} (h : Has columns i) (is : m ≡ node-of columns i) where
   node-arm : Arm columns i m
@@ -40,10 +40,13 @@ module _ {columns : List ℕ} {i : ℕ} {m : Node} (h : Has columns i) (is : m �
   pub sound : {rows : List (List ℕ)} → i < length rows → All (Right columns rows) (nodes-of (parts-of m)) → Sound columns rows m
   sound {rows} l r =
       record {
-        parts = all-both (λ k. k < i) (Right columns rows) (λ k. (k < length rows) × Right columns rows k) (λ k b s. (omega (arith, b, l), s)) (nodes-of (parts-of m)) (parts-below columns i (parts-of m) (node-held refl)) r;
+        parts = all-both (λ k. (k < i) × Has columns k) (Right columns rows) (λ k. (k < length rows) × Right columns rows k) (λ k b s. (let below = b .0 in omega (arith, below, l), s)) (nodes-of (parts-of m)) (parts-under columns i (parts-of m) (node-held refl)) r;
         has = all-map (λ q (c : Child columns i (q .0) (q .1)). c .has) (references m) (node-arm .children);
         tabled = node-arm .tabled;
       }
+
+  pub both-had : {l r : ℕ} → nodes-of (parts-of m) ≡ l ∷ r ∷ [] → Has columns l × Has columns r
+  both-had e = let u = subst (All (λ k. (k < i) × Has columns k)) e (parts-under columns i (parts-of m) (node-held refl)) in (u .0 .1, u .1 .0 .1)
 
   -- its own facts are those of its tree
   pub own-put : {before after : List (List ℕ)} {f : Facts} → meant f ≡ own (tree-of columns) m → i < length before → Put before i f after → Kept columns before after × Right columns after i
@@ -107,8 +110,13 @@ module _ {columns : List ℕ} {before : List (List ℕ)} {m : Node} {p : Parts} 
         parts = subst (λ (z : Parts). All (Done columns after) (nodes-of z)) of (subst (All (Done columns after)) (sym e) ((k .here, k .below), ((g .here, g .below), tt)));
       }
 
-pub came-right : {columns : List ℕ} {before rows : List (List ℕ)} {m : Node} → Came columns before rows m → All (Right columns rows) (nodes-of (parts-of m))
+came-right : {columns : List ℕ} {before rows : List (List ℕ)} {m : Node} → Came columns before rows m → All (Right columns rows) (nodes-of (parts-of m))
 came-right {columns} {rows = rows} {m} c = all-map (λ k (d : Done columns rows k). d .0) (nodes-of (parts-of m)) (c .parts)
+
+-- what the store of the node's row asks for
+pub ready : {columns : List ℕ} {before rows : List (List ℕ)} {i : ℕ} {m : Node} {p : Parts} → Has columns i → i < length before → p ≡ parts-of m → Came columns before rows m
+    → (Has columns i × (i < length rows) × (nodes-of (parts-of m) ≡ nodes-of p)) × All (Right columns rows) (nodes-of (parts-of m))
+ready h l of c = ((h, room (c .kept) l, ap nodes-of (sym of)), came-right c)
 
 pub finished : {columns : List ℕ} {before rows after : List (List ℕ)} {i : ℕ} {m : Node} → Has columns i → m ≡ node-of columns i → Came columns before rows m
     → Kept columns rows after × Right columns after i → Gathered columns before after i

@@ -200,6 +200,38 @@ parts-of (node.ArgumentCell f x l) = Then x l
 parts-of (node.ItemCell x l) = Then x l
 parts-of (node.BinderCell s y l) = Leaf
 
+-- the term and the rest of a list's cell: at a place of a list these are all its parts
+unfoldable pub cell-of : Node → Parts
+cell-of (node.And l r) = Leaf
+cell-of (node.Or l r) = Leaf
+cell-of (node.Not b) = Leaf
+cell-of (node.Formerly b w) = Leaf
+cell-of (node.Previous b w) = Leaf
+cell-of (node.Since l r w) = Leaf
+cell-of (node.Exists s y b) = Leaf
+cell-of (node.Comparison o l r) = Leaf
+cell-of (node.Predicate a l) = Leaf
+cell-of (node.Refine b l) = Leaf
+cell-of (node.Tp s) = Leaf
+cell-of (node.Call y) = Leaf
+cell-of (node.SigilRef y) = Leaf
+cell-of (node.Var x) = Leaf
+cell-of node.Wildcard = Leaf
+cell-of (node.Literal y) = Leaf
+cell-of (node.ScopeField y) = Leaf
+cell-of (node.ContextField y) = Leaf
+cell-of (node.ParamRef k) = Leaf
+cell-of (node.BinderRef k) = Leaf
+cell-of (node.Array l) = Leaf
+cell-of (node.Arith o l r) = Leaf
+cell-of (node.Sum s l b) = Leaf
+cell-of (node.Count l b) = Leaf
+cell-of (node.AggregateCall y) = Leaf
+cell-of node.ListEnd = Leaf
+cell-of (node.ArgumentCell f x l) = Then x l
+cell-of (node.ItemCell x l) = Then x l
+cell-of (node.BinderCell s y l) = Leaf
+
 abbrev pub nodes-of : Parts → L.List ℕ
 nodes-of Leaf = []
 nodes-of (One b) = b .0 ∷ []

@@ -6,7 +6,7 @@ use Rattle.memory.specs.Columns.{node-told}
 use Rattle.memory.proofs.Unnamed.{conditions, terms, cells, Rest, rest-away, all?, among?, away-among, away-both, of-each, says-end}
 use Rattle.known.specs.declared.Parts.{Parts}
 use Rattle.known.specs.declared.Parts.the-variants.{Leaf}
-use Rattle.known.specs.Known.{parts-of}
+use Rattle.known.specs.Known.{parts-of, cell-of}
 
 pub parts-arm : (k n : ℕ) (ps : List ℕ) (t : Parts) → k ≡ n → t ≡ parts-of (node-told n ps) → t ≡ parts-of (node-told k ps)
 parts-arm k n ps t e h = h ∙ ap (λ (m : ℕ). parts-of (node-told m ps)) (sym e)
@@ -26,3 +26,23 @@ leaf-arm k ps m =
     (refl, (refl, (refl, (refl, (refl, (refl, (refl, (refl, (refl, (refl, (refl, (refl, tt))))))))))))
     (λ a. ap parts-of (sym (says-end k ps (away-among ((conditions ++ terms) ++ cells) (branching ++ leaves) k refl
     (away-both branching leaves k (rest-away branching k (Unit {0}) m .1) a)))))
+
+-- ---- along a list
+
+pub cell-arm : (k n : ℕ) (ps : List ℕ) (t : Parts) → k ≡ n → t ≡ cell-of (node-told n ps) → t ≡ cell-of (node-told k ps)
+cell-arm k n ps t e h = h ∙ ap (λ (m : ℕ). cell-of (node-told m ps)) (sym e)
+
+-- the kinds of cells, and those of no cell but for 0x30
+abbrev pub cell-kinds : List ℕ
+cell-kinds = 0x31 ∷ 0x32 ∷ []
+
+abbrev no-cells : List ℕ
+no-cells = (conditions ++ terms) ++ (0x33 ∷ [])
+
+pub end-arm : (k : ℕ) (ps : List ℕ) → Rest cell-kinds k (Unit {0}) → Leaf ≡ cell-of (node-told k ps)
+unfolding node-told cell-of all? among?
+end-arm k ps m =
+    of-each (λ n. Leaf ≡ cell-of (node-told n ps)) no-cells k
+    (refl, (refl, (refl, (refl, (refl, (refl, (refl, (refl, (refl, (refl, (refl, (refl, (refl, (refl, (refl, (refl, (refl, (refl, (refl, (refl, (refl, (refl, (refl, (refl, (refl, (refl, tt))))))))))))))))))))))))))
+    (λ a. ap cell-of (sym (says-end k ps (away-among ((conditions ++ terms) ++ cells) (cell-kinds ++ no-cells) k refl
+    (away-both cell-kinds no-cells k (rest-away cell-kinds k (Unit {0}) m .1) a)))))

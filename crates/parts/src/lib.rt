@@ -16,7 +16,7 @@ ghost use lib.ListN.{getD};
 ghost use Rattle.paper.specs.declared.Node.the-variants.{ListEnd};
 ghost use Rattle.memory.specs.Columns.{node-told};
 ghost use Rattle.record.specs.Stored.{held, Has};
-ghost use Rattle.known.specs.Known.{parts-of};
+ghost use Rattle.known.specs.Known.{parts-of, cell-of};
 ghost use Rattle.parts.specs.Entered.{entered-below};
 
 // Where a walk goes on below a condition.
@@ -64,6 +64,32 @@ pub fn parts_at(columns: &[u64; 513], i: NodeNo) -> Parts
     let p3 = number_in(word, PLACE_3);
     let p4 = number_in(word, PLACE_4);
     parts_in(kind, p0, p1, p2, p3, p4)
+}
+
+// The term and the rest of a list's cell, where its kind and its fields are these; nothing at the list's end.
+fn cell_in(kind: u8, p0: u16, p1: u16, p2: u16, p3: u16, p4: u16) -> Parts
+    ensures { λ r. ⌜ r ≡ cell-of (node-told kind (p0 ∷ p1 ∷ p2 ∷ p3 ∷ p4 ∷ [])) ⌝ }
+{
+    match kind {
+        0x31 => Parts::Then(NodeNo(p2), NodeNo(p4)),
+        0x32 => Parts::Then(NodeNo(p0), NodeNo(p2)),
+        _ => Parts::Leaf,
+    }
+}
+
+// Asked along a list, where no other node stands, in place of all the kinds that `parts_at` tells apart.
+pub fn cell_at(columns: &[u64; 513], i: NodeNo) -> Parts
+    requires { ⌜ Has (now columns) (i .0) ⌝ }
+    ensures { λ r. ⌜ r ≡ cell-of (getD (held (now (columns .entry))) (i .0) ListEnd) ⌝ }
+{
+    let word = word_at(columns, i);
+    let kind = kind_in(word);
+    let p0 = number_in(word, PLACE_0);
+    let p1 = number_in(word, PLACE_1);
+    let p2 = number_in(word, PLACE_2);
+    let p3 = number_in(word, PLACE_3);
+    let p4 = number_in(word, PLACE_4);
+    cell_in(kind, p0, p1, p2, p3, p4)
 }
 
 // The conditions or the operands of a condition; a refinement's fields and a predicate's arguments are not entered.
