@@ -1,11 +1,11 @@
 // Entries at the binder cells of an aggregate.
 use names::Names;
 use paper::Finding;
-use paper::Node;
 use paper::NodeNo;
 use paper::Slot;
 use paper::Subject;
-use record::access::node_at;
+use slots::Binder;
+use slots::binder_at;
 use writes::put;
 ghost use Rattle.paper.specs.Places.{at-cells, findings};
 ghost use Rattle.paper.specs.Scoping.{cell-of, cells};
@@ -48,12 +48,15 @@ pub fn emit_cells(
     requires { ⌜ Room (findings (at-cells rule (mem s) (cells (binders-of (now columns) (i .0))))) at ⌝ }
     ensures { λ r. ⌜ Wrote (findings (at-cells rule (mem s) (cells (binders-of (now (columns .entry)) (i .0))))) at r (now (out .entry)) (now (out .exit)) ⌝ }
 {
-    let node = node_at(columns, i);
-    match node {
-        Node::BinderCell(slot, _, rest) => {
+    // Most often no name is wanted, and then no cell is looked at.
+    if names::is_empty(s) {
+        return at;
+    }
+    match binder_at(columns, i) {
+        Binder::Cell(slot, rest) => {
             let p = emit_cell(i, slot, rule, s, out, at);
             emit_cells(columns, rest, rule, s, out, p)
         }
-        _ => at,
+        Binder::End => at,
     }
 }

@@ -77,7 +77,7 @@ unfolding gather
 gather-both {B = B} f [] b = refl
 gather-both {B = B} f (x ∷ a) b = ap (λ (l : List B). f x ++ l) (gather-both f a b) ∙ sym (append-assoc (f x) (gather f a) (gather f b))
 
-cells-none : (rule : ℕ) (a : Set) (l : Binders) → ((k : ℕ) → binder-names l k ≡ true → a k ≡ false) → findings (at-cells rule a (cells l)) ≡ []
+pub cells-none : (rule : ℕ) (a : Set) (l : Binders) → ((k : ℕ) → binder-names l k ≡ true → a k ≡ false) → findings (at-cells rule a (cells l)) ≡ []
 unfolding findings cells gather binder-names _∪_
 cells-none rule a (no-binder n) f = refl
 cells-none rule a (binder n s y l) f =

@@ -10,21 +10,17 @@ use Rattle.paper.specs.declared.Node.the-variants.{ListEnd}
 use Rattle.paper.specs.Shape.{names-in}
 use Rattle.paper.specs.Tree.{Tree}
 use Rattle.paper.proofs.Walks.{All}
-use Rattle.memory.specs.Columns.{node-told, places-in}
-use Rattle.memory.proofs.ColumnLaws.{held-at}
-use Rattle.memory.proofs.Unnamed.{conditions, terms, cells, Away, Rest, rest-away, of-each, says-end}
+use Rattle.memory.specs.Columns.{node-told}
+use Rattle.memory.proofs.Unnamed.{Away, Rest, rest-away, by-number}
 use Rattle.record.specs.Stored.{Has}
+pub use Rattle.record.proofs.StoredLaws.{said}
 use Rattle.known.specs.declared.Parts.{Parts}
 use Rattle.known.specs.declared.Parts.the-variants.{Leaf, One, Two, List as Listed, Then}
 use Rattle.known.specs.Known.{Known, known-of, nothing, join, parts-of, nodes-of, Way, alone, over, between, way, from-parts, own}
 use Rattle.known.specs.Rows.{node-of}
 use Rattle.known.proofs.PartLaws.{known-arm}
 
--- a node that is held, by its kind's number
-pub said : {columns : List ℕ} {i w kind n : ℕ} → Has columns i → w ≡ getD columns i 0 → kind ≡ w % 0x100 → kind ≡ n → node-of columns i ≡ node-told n (places-in w)
-said {columns} {i} {w} h p q e = held-at columns i (h .1) ∙ ap (λ (x : ℕ). node-told (x % 0x100) (places-in x)) (sym p) ∙ ap (λ (k : ℕ). node-told k (places-in w)) (sym q ∙ e)
-
--- its names are in the table
+-- the names of a node that is held are in the table
 pub names-tabled : {columns : List ℕ} {i : ℕ} {m : Node} → Has columns i → node-of columns i ≡ m → All (λ x. x < 128) (names-in m)
 names-tabled {i = i} h e = subst (λ (m : Node). All (λ x. x < 128) (names-in m)) e (known-arm i h .tabled)
 
@@ -70,12 +66,6 @@ module _ (t : ℕ → Tree) (m : Node) where
       go (Then c l) q = ap (λ (l : List ℕ). f (known-of (t (getD l 0 0))) (known-of (t (getD l 1 0)))) q
 
 -- ---- the kinds that a match does not name
-
-by-number : (Q : Node → Type 0) (named : List ℕ) (k : ℕ) (ps : List ℕ) → All (λ n. Away named n → Q (node-told n ps)) ((conditions ++ terms) ++ cells)
-    → Q ListEnd → Away named k → Q (node-told k ps)
-by-number Q named k ps each end away =
-    of-each (λ n. Away named n → Q (node-told n ps)) ((conditions ++ terms) ++ cells) k each
-    (λ a w. subst Q (sym (says-end k ps a)) end) away
 
 is-leaf : Parts → Bool
 is-leaf Leaf = true

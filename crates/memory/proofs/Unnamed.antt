@@ -7,6 +7,7 @@ use Prim.Native.Nat.{ℕ}
 use native.Mathlib.Decide.{ℕ-discrete}
 use lib.Dec.{eqb}
 use borrow.Author.Tests.{eqb-true, eqb-false, ne-eqb}
+use Rattle.paper.specs.declared.Node.{Node}
 use Rattle.paper.specs.declared.Node.the-variants.{ListEnd}
 use Rattle.paper.proofs.Walks.{All}
 use Rattle.paper.specs.Record.{pick, Kind, kinds, node-kind, format, name, end, unknown, announced}
@@ -120,3 +121,10 @@ says-end k ps a = said-end k _ a (eqb k 0x30) refl
 -- a match that names every kind but 0x30
 pub last-arm : (k : ℕ) (ps : List ℕ) → Rest ((conditions ++ terms) ++ cells) k (Unit {0}) → ListEnd ≡ node-told k ps
 last-arm k ps m = sym (says-end k ps (rest-away ((conditions ++ terms) ++ cells) k (Unit {0}) m .1))
+
+-- what holds of each kind that a match does not name, and of `ListEnd`, holds of every number that it does not name
+pub by-number : (Q : Node → Type 0) (named : List ℕ) (k : ℕ) (ps : List ℕ) → All (λ n. Away named n → Q (node-told n ps)) ((conditions ++ terms) ++ cells)
+    → Q ListEnd → Away named k → Q (node-told k ps)
+by-number Q named k ps each last away =
+    of-each (λ n. Away named n → Q (node-told n ps)) ((conditions ++ terms) ++ cells) k each
+    (λ a w. subst Q (sym (says-end k ps a)) last) away

@@ -2,7 +2,7 @@
 -- Assumes nothing.
 use mathlib.Core.Path.{_≡_, refl, sym, ap, _∙_, subst}
 use mathlib.Core.List.{List, []}
-use Prim.Native.Nat.{ℕ, _+_, _*_, _<_, _≤_}
+use Prim.Native.Nat.{ℕ, _+_, _*_, _%_, _<_, _≤_}
 use native.Mathlib.Omega.{arith}
 use lib.ListN.{length, getD, take, drop, List·getD-eq-default}
 use Rattle.paper.specs.declared.Node.{Node}
@@ -14,8 +14,8 @@ use Rattle.paper.specs.Questions.{name, name-of}
 use Rattle.paper.proofs.WellFormed.{WellFormed}
 use Rattle.memory.specs.Decoded.{node-from}
 use Rattle.memory.specs.Starts.{start-of}
-use Rattle.memory.specs.Columns.{held, Copies}
-use Rattle.memory.proofs.ColumnLaws.{copied-held}
+use Rattle.memory.specs.Columns.{held, node-told, places-in, Copies}
+use Rattle.memory.proofs.ColumnLaws.{held-at, copied-held}
 use Rattle.record.specs.Arena.{Read}
 use Rattle.record.specs.Stored.{contents-of, contents, Stored, Formed, Has}
 use Rattle.record.specs.declared.reader.Reading.{Reading}
@@ -42,6 +42,12 @@ node-stored bytes starts s i h = ap (node-from bytes) (s .starts-are i h) ∙ sy
 
 pub few : {columns : List ℕ} {i : ℕ} → Has columns i → i < 512
 few h = let z = h .0 .formed .few-nodes in let l = h .1 in omega arith
+
+-- a node that is held, by its kind's number
+pub said : {columns : List ℕ} {i w kind n : ℕ} → Has columns i → w ≡ getD columns i 0 → kind ≡ w % 0x100 → kind ≡ n
+    → getD (held columns) i ListEnd ≡ node-told n (places-in w)
+said {columns} {i} {w} h p q e =
+    held-at columns i (h .1) ∙ ap (λ (x : ℕ). node-told (x % 0x100) (places-in x)) (sym p) ∙ ap (λ (k : ℕ). node-told k (places-in w)) (sym q ∙ e)
 
 -- the reader's arena holds the bytes
 pub read-stored : (bytes : List ℕ) (r : Reading) → Read bytes r → Stored bytes (r .arena .starts)

@@ -25,10 +25,12 @@ use Rattle.paper.specs.Tree.{Term, Tree, as-term, planted}
 use Rattle.paper.specs.Tree.Term.{Var, Wildcard, Value, Sigil, Array, Arith, Sum, Count, AggregateCall}
 use Rattle.paper.specs.FreeAndRestricted.{has-wildcard, items-wildcard, bare, ties, equality, tied, tied-name}
 use Rattle.paper.proofs.Walks.{All}
+use Rattle.memory.specs.Columns.{node-told}
+use Rattle.memory.proofs.Unnamed.{Away, Rest, rest-away, by-number}
 use Rattle.record.specs.Stored.{held, Has}
 use Rattle.trees.specs.Trees.{tree-of, term-of, in-terms}
 use Rattle.trees.proofs.Arms.{Arm, arm}
-use Rattle.trees.proofs.ByKind.{term-kinds, no-other, term-cases, in-terms-cases}
+use Rattle.trees.proofs.ByKind.{term-cases, in-terms-cases}
 use Rattle.trees.proofs.Joins.{JoinsTerms}
 use Rattle.trees.specs.Terms.{arguments-wildcard, wildcard-in, TabledTied}
 
@@ -184,39 +186,20 @@ no-wildcard t n =
     (λ y h. refl) (λ f x l h. absurd (miss no-wildcard-kinds 26 tt h)) (λ x l h. absurd (miss no-wildcard-kinds 27 tt h)) (λ m e h. refl)
 
 -- no variable
-abbrev not-bare-kinds : List ℕ
-not-bare-kinds = 0 ∷ 1 ∷ 2 ∷ 3 ∷ 4 ∷ 5 ∷ 6 ∷ 7 ∷ 8 ∷ 9 ∷ 10 ∷ 11 ∷ 12 ∷ 14 ∷ 15 ∷ 16 ∷ 17 ∷ 18 ∷ 19 ∷ 20 ∷ 21 ∷ 22 ∷ 23 ∷ 24 ∷ 25 ∷ 26 ∷ 27 ∷ 28 ∷ []
+pub not-bare : (t : ℕ → Tree) (n : NodeNo) (k : ℕ) (ps : List ℕ) → Rest (0x20 ∷ []) k (Unit {0}) → bare (as-term (planted t n (node-told k ps))) ≡ subject.NoName
+unfolding node-told planted as-term bare Away
+not-bare t n k ps rest =
+    by-number (λ m. bare (as-term (planted t n m)) ≡ subject.NoName) (0x20 ∷ []) k ps
+    ((λ a. refl), ((λ a. refl), ((λ a. refl), ((λ a. refl), ((λ a. refl), ((λ a. refl), ((λ a. refl), ((λ a. refl), ((λ a. refl), ((λ a. refl), ((λ a. refl), ((λ a. refl), ((λ a. refl), ((λ a. absurd (a .0 refl)), ((λ a. refl), ((λ a. refl), ((λ a. refl), ((λ a. refl), ((λ a. refl), ((λ a. refl), ((λ a. refl), ((λ a. refl), ((λ a. refl), ((λ a. refl), ((λ a. refl), ((λ a. refl), ((λ a. refl), ((λ a. refl), tt))))))))))))))))))))))))))))
+    refl (rest-away (0x20 ∷ []) k (Unit {0}) rest .1)
 
-pub not-bare : (t : ℕ → Tree) (n : NodeNo) (m : Node) → OneOf not-bare-kinds (tagOf the-type m) → bare (as-term (planted t n m)) ≡ subject.NoName
-unfolding bare
-not-bare t n =
-    term-cases t n (λ m z. OneOf not-bare-kinds (tagOf the-type m) → bare z ≡ subject.NoName)
-    (λ x h. absurd (miss not-bare-kinds 13 tt h)) (λ h. refl) (λ y h. refl) (λ y h. refl) (λ y h. refl) (λ k h. refl) (λ k h. refl) (λ l h. refl)
-    (λ o l r h. refl) (λ s l b h. refl) (λ l b h. refl) (λ y h. refl) (λ m e h. refl)
+-- no variable, no wildcard and no arithmetic
+abbrev valueless : List ℕ
+valueless = 0x20 ∷ 0x21 ∷ 0x28 ∷ []
 
--- a variable and a wildcard
-abbrev ties-nothing-kinds : List ℕ
-ties-nothing-kinds = 13 ∷ 14 ∷ []
-
-pub ties-nothing : (t : ℕ → Tree) (n : NodeNo) (m : Node) → OneOf ties-nothing-kinds (tagOf the-type m) → ties (as-term (planted t n m)) ≡ false
-unfolding ties
-ties-nothing t n =
-    term-cases t n (λ m z. OneOf ties-nothing-kinds (tagOf the-type m) → ties z ≡ false)
-    (λ x h. refl) (λ h. refl) (λ y h. absurd (miss ties-nothing-kinds 15 tt h)) (λ y h. absurd (miss ties-nothing-kinds 16 tt h))
-    (λ y h. absurd (miss ties-nothing-kinds 17 tt h)) (λ k h. absurd (miss ties-nothing-kinds 18 tt h))
-    (λ k h. absurd (miss ties-nothing-kinds 19 tt h)) (λ l h. absurd (miss ties-nothing-kinds 20 tt h))
-    (λ o l r h. absurd (miss ties-nothing-kinds 21 tt h)) (λ s l b h. absurd (miss ties-nothing-kinds 22 tt h))
-    (λ l b h. absurd (miss ties-nothing-kinds 23 tt h)) (λ y h. absurd (miss ties-nothing-kinds 24 tt h))
-    (λ m e h. absurd (no-other ties-nothing-kinds term-kinds _ refl h e))
-
--- any other value
-abbrev ties-value-kinds : List ℕ
-ties-value-kinds = 0 ∷ 1 ∷ 2 ∷ 3 ∷ 4 ∷ 5 ∷ 6 ∷ 7 ∷ 8 ∷ 9 ∷ 10 ∷ 11 ∷ 12 ∷ 15 ∷ 16 ∷ 17 ∷ 18 ∷ 19 ∷ 20 ∷ 22 ∷ 23 ∷ 24 ∷ 25 ∷ 26 ∷ 27 ∷ 28 ∷ []
-
-pub ties-value : (t : ℕ → Tree) (n : NodeNo) (m : Node) → OneOf ties-value-kinds (tagOf the-type m) → ties (as-term (planted t n m)) ≡ true
-unfolding ties
-ties-value t n =
-    term-cases t n (λ m z. OneOf ties-value-kinds (tagOf the-type m) → ties z ≡ true)
-    (λ x h. absurd (miss ties-value-kinds 13 tt h)) (λ h. absurd (miss ties-value-kinds 14 tt h)) (λ y h. refl) (λ y h. refl) (λ y h. refl)
-    (λ k h. refl) (λ k h. refl) (λ l h. refl) (λ o l r h. absurd (miss ties-value-kinds 21 tt h)) (λ s l b h. refl) (λ l b h. refl) (λ y h. refl)
-    (λ m e h. refl)
+pub ties-value : (t : ℕ → Tree) (n : NodeNo) (k : ℕ) (ps : List ℕ) → Rest valueless k (Unit {0}) → ties (as-term (planted t n (node-told k ps))) ≡ true
+unfolding node-told planted as-term ties Away
+ties-value t n k ps rest =
+    by-number (λ m. ties (as-term (planted t n m)) ≡ true) valueless k ps
+    ((λ a. refl), ((λ a. refl), ((λ a. refl), ((λ a. refl), ((λ a. refl), ((λ a. refl), ((λ a. refl), ((λ a. refl), ((λ a. refl), ((λ a. refl), ((λ a. refl), ((λ a. refl), ((λ a. refl), ((λ a. absurd (a .0 refl)), ((λ a. absurd (a .1 .0 refl)), ((λ a. refl), ((λ a. refl), ((λ a. refl), ((λ a. refl), ((λ a. refl), ((λ a. refl), ((λ a. absurd (a .1 .1 .0 refl)), ((λ a. refl), ((λ a. refl), ((λ a. refl), ((λ a. refl), ((λ a. refl), ((λ a. refl), tt))))))))))))))))))))))))))))
+    refl (rest-away valueless k (Unit {0}) rest .1)

@@ -1,10 +1,16 @@
 // What an equality ties.
+use memory::PLACE_0;
 use names::Names;
+use nodes::kind_in;
+use nodes::lower;
+use nodes::number_in;
+use paper::NameNo;
 use paper::Node;
 use paper::NodeNo;
 use paper::Subject;
 use paper::Tied;
 use record::access::node_at;
+use record::access::word_at;
 ghost use mathlib.Core.Path.{_≡_};
 ghost use Rattle.paper.specs.FreeAndRestricted.{bare, ties, tied, tied-name};
 ghost use Rattle.names.specs.Words.{mem};
@@ -33,9 +39,9 @@ pub fn bare_var(columns: &[u64; 513], i: NodeNo) -> Subject
     requires { ⌜ Has (now columns) (i .0) ⌝ }
     ensures { λ r. ⌜ r ≡ bare (term-of (now (columns .entry)) (i .0)) ⌝ }
 {
-    let node = node_at(columns, i);
-    match node {
-        Node::Var(x) => Subject::Name(x),
+    let word = word_at(columns, i);
+    match kind_in(word) {
+        0x20 => Subject::Name(NameNo(lower(number_in(word, PLACE_0)))),
         _ => Subject::NoName,
     }
 }
@@ -45,10 +51,12 @@ pub fn is_restrictor(columns: &[u64; 513], i: NodeNo) -> bool
     requires { ⌜ Has (now columns) (i .0) ⌝ }
     ensures { λ r. ⌜ r ≡ ties (term-of (now (columns .entry)) (i .0)) ⌝ }
 {
-    let node = node_at(columns, i);
-    match node {
-        Node::Var(_) | Node::Wildcard => false,
-        Node::Arith(_, _, _) => !term_contains_wildcard(columns, i),
+    let word = word_at(columns, i);
+    // A variable or a wildcard has no value, and arithmetic has none over a wildcard.
+    match kind_in(word) {
+        0x20 => false,
+        0x21 => false,
+        0x28 => !term_contains_wildcard(columns, i),
         _ => true,
     }
 }

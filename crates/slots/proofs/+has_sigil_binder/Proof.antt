@@ -1,19 +1,22 @@
 -- `has_sigil_binder` says whether a binder of a list is a sigil. The measure is the node's number; the needs are in the order of the code.
-use mathlib.Core.Path.{_≡_, refl, sym, _∙_}
+use mathlib.Core.Path.{_≡_, sym}
 use denote.Ref.{now}
 use borrow.Author.Needs.{needs}
-use Rattle.paper.specs.declared.Node.{Node}
+use Rattle.paper.specs.declared.NodeNo.{NodeNo}
+use Rattle.paper.specs.declared.Slot.{Slot}
+use Rattle.paper.specs.declared.Node.the-variants.{BinderCell}
 use Rattle.paper.specs.Scoping.{binder-sigil}
-use Rattle.trees.proofs.Arms.{Arm, arm, down}
+use Rattle.trees.proofs.Arms.{Arm, down}
 use Rattle.trees.proofs.Joins.{or-taken, or-else}
-use Rattle.slots.proofs.SlotLaws.{in-cells, sigil-cell, no-cell, sigil-end}
+use Rattle.slots.specs.declared.Binder.the-variants.{Cell}
+use Rattle.slots.proofs.SlotLaws.{sigil-cell, cell-arm, at-end, sigil-end}
 use Prim.Native.Nat.{ℕ, _<_}
 use borrow.Fn.Kinds.{In}
 use borrow.Fn.PlainCycle.{Measures, is, falls, and}
 use Rattle.slots.proofs.has_sigil_binder.Reads as has-sigil-binder
 use Rattle.slots.proofs.has_sigil_binder.Kinds as has-sigil-binder-kinds
 use Rattle.slots.proofs.+has_sigil_binder.Lts-has_sigil_binder as has-sigil-binder-lts
-use Rattle.record.proofs.access.node_at.Reads as node-at-reads
+use Rattle.slots.proofs.binder_at.Reads as binder-at-reads
 use Rattle.slots.proofs.is_sigil.Reads as is-sigil-reads
 use Rattle.slots.proofs.+has_sigil_binder.{statement}
 use Rattle.slots.proofs.+has_sigil_binder.Tie.{close}
@@ -29,11 +32,11 @@ binders-below t = and 1 has-sigil-binder-kinds.ps (falls 1 has-sigil-binder-kind
 
 abbrev binders-claims : ℕ → has-sigil-binder-lts.Claims
 binders-claims t =
-    (node-at-reads.Asked, node-at-reads.Learnt, is-sigil-reads.Asked, is-sigil-reads.Learnt, binders-below t, has-sigil-binder.Post)
+    (binder-at-reads.Asked, binder-at-reads.Learnt, is-sigil-reads.Asked, is-sigil-reads.Learnt, binders-below t, has-sigil-binder.Post)
 
-binders-arm : (t : ℕ) (c : has-sigil-binder-lts.After-node-at (binders-claims t) (binders-at t) has-sigil-binder.Post) {m : Node} → c .node-at .result ≡ m
-    → Arm (now (c .before .args .columns)) (c .before .args .i .0) m
-binders-arm t c p = arm _ _ _ _ (c .before .pre .1) (c .node-at .ensures) p
+binders-arm : (t : ℕ) (c : has-sigil-binder-lts.After-binder-at (binders-claims t) (binders-at t) has-sigil-binder.Post) {s : Slot} {l : NodeNo} → c .binder-at .result ≡ Cell s l
+    → (y : ℕ) × Arm (now (c .before .args .columns)) (c .before .args .i .0) (BinderCell s y l)
+binders-arm t c p = cell-arm (c .before .pre .1) (c .binder-at .ensures) p
 
 pub +has-sigil-binder-spec : {M : Type 1} → statement M
 +has-sigil-binder-spec =
@@ -42,10 +45,10 @@ pub +has-sigil-binder-spec : {M : Type 1} → statement M
     (λ c κs. c .pre .1)
     (λ c. search needs)
     (λ c κs. search needs)
-    (λ c κs. down (binders-arm t (c .before .before .before .before .before) (c .before .before .before .node .given .1) .children .0) (c .before .before .before
-    .before .before .before .pre .0))
-    (λ c. or-taken _ (c .if1 .taken) (c .before .is-sigil .ensures) (sigil-cell (binders-arm t (c .before .before .before .before .before) (c .before .before .before
-    .node .given .1))))
-    (λ c. or-else (c .before .if1 .left) (c .before .before .is-sigil .ensures) (c .has-sigil-binder .ensures) (sigil-cell (binders-arm t (c .before .before .before
-    .before .before .before) (c .before .before .before .before .node .given .1))))
-    (λ c. sym (in-cells binder-sigil (binders-arm t (c .before) refl) ∙ no-cell binder-sigil _ sigil-end _ _ _ (c .match .keys2))))
+    (λ c κs. let a = c .before .before .before in
+    down (binders-arm t (a .before .before) (a .slot .given .1) .1 .children .0) (a .before .before .before .pre .0))
+    (λ c. search needs)
+    (λ c. let a = c .before .before .before in or-taken _ (c .if1 .taken) (c .before .is-sigil .ensures) (sigil-cell (binders-arm t (a .before .before) (a .slot .given .1) .1)))
+    (λ c. let a = c .before .before .before .before in
+    or-else (c .before .if1 .left) (c .before .before .is-sigil .ensures) (c .has-sigil-binder .ensures) (sigil-cell (binders-arm t (a .before .before) (a .slot .given .1) .1)))
+    (λ c. let a = c .before .before in sym (at-end (a .before .pre .1) (a .binder-at .ensures) binder-sigil sigil-end (c .enum-told .given .1))))
