@@ -110,8 +110,13 @@ module _ {columns : List ℕ} {before : List (List ℕ)} {m : Node} {p : Parts} 
         parts = subst (λ (z : Parts). All (Done columns after) (nodes-of z)) of (subst (All (Done columns after)) (sym e) ((k .here, k .below), ((g .here, g .below), tt)));
       }
 
-pub came-right : {columns : List ℕ} {before rows : List (List ℕ)} {m : Node} → Came columns before rows m → All (Right columns rows) (nodes-of (parts-of m))
+came-right : {columns : List ℕ} {before rows : List (List ℕ)} {m : Node} → Came columns before rows m → All (Right columns rows) (nodes-of (parts-of m))
 came-right {columns} {rows = rows} {m} c = all-map (λ k (d : Done columns rows k). d .0) (nodes-of (parts-of m)) (c .parts)
+
+-- what the store of the node's row asks for
+pub ready : {columns : List ℕ} {before rows : List (List ℕ)} {i : ℕ} {m : Node} {p : Parts} → Has columns i → i < length before → p ≡ parts-of m → Came columns before rows m
+    → (Has columns i × (i < length rows) × (nodes-of (parts-of m) ≡ nodes-of p)) × All (Right columns rows) (nodes-of (parts-of m))
+ready h l of c = ((h, room (c .kept) l, ap nodes-of (sym of)), came-right c)
 
 pub finished : {columns : List ℕ} {before rows after : List (List ℕ)} {i : ℕ} {m : Node} → Has columns i → m ≡ node-of columns i → Came columns before rows m
     → Kept columns rows after × Right columns after i → Gathered columns before after i
