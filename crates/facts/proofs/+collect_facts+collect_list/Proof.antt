@@ -3,7 +3,6 @@
 use mathlib.Core.Path.{refl, sym, ap, _∙_}
 use native.Mathlib.Omega.{arith}
 use denote.Ref.{now}
-use borrow.Author.Needs.{needs}
 use Rattle.known.specs.Known.{join, nothing}
 use Rattle.known.specs.Rows.{meant}
 use Rattle.known.proofs.RowLaws.{put-long, read-right}
@@ -111,19 +110,19 @@ pub +collect-facts+collect-list-spec : {M : Type 1} → statement M
 +collect-facts+collect-list-spec =
     close μ-collect-facts μ-collect-list (λ t. collect-facts-lts.spec (claims-facts t) (collect-facts-at t) collect-facts.Post
     (λ c κs. c .pre .1 .0)
-    (λ c. search needs)
+    (λ c. c .match .keys1)
     (λ c κs. let s = c .before .before .before .before in (s .pre .1 .0, s .pre .1 .1, sym (c .before .enum-told .given .1) ∙ c .before .before .before .parts-at .ensures))
-    (λ c. search needs)
+    (λ c. c .match .keys2)
     (λ c κs. let s = c .before .before .before .before .before in call (node-held (s .pre .1 .0) refl (sym (c .before .before .b .given .1) ∙ c .before .before .before .before .parts-at .ensures)) (s .pre .0) (s .pre .1 .1))
     (λ c κs. let s = c .before .before .before .before .before .before .before .before in let of = sym (c .before .before .before .before .before .b .given .1) ∙ c .before .before .before .before .before .before .before .parts-at .ensures in ready (s .pre .1 .0) (s .pre .1 .1) of (came-one of refl (c .before .before .collect-facts .ensures)))
-    (λ c. search needs)
+    (λ c. c .match .keys3)
     (λ c κs. let s = c .before .before .before .before .before in call (node-held (s .pre .1 .0) refl (sym (c .before .before .l .given .1) ∙ c .before .before .before .before .parts-at .ensures) .0) (s .pre .0) (s .pre .1 .1))
     (λ c κs. let s = c .before .before .before .before .before .before .before .before in call (node-held (s .pre .1 .0) refl (sym (c .before .before .before .before .before .l .given .1) ∙ c .before .before .before .before .before .before .before .parts-at .ensures) .1) (s .pre .0) (room (c .before .before .collect-facts2 .ensures .kept) (s .pre .1 .1)))
     (λ c κs. let s = c .before .before .before .before .before .before .before .before .before .before .before in let of = sym (c .before .before .before .before .before .before .before .before .l .given .1) ∙ c .before .before .before .before .before .before .before .before .before .before .parts-at .ensures in ready (s .pre .1 .0) (s .pre .1 .1) of (came-two of refl (c .before .before .before .before .before .collect-facts2 .ensures) (c .before .before .collect-facts3 .ensures)))
-    (λ c. search needs)
+    (λ c. c .match .keys4)
     (λ c κs. let s = c .before .before .before .before .before in let h = node-held (s .pre .1 .0) refl (sym (c .before .before .list .given .1) ∙ c .before .before .before .before .parts-at .ensures) in call-list (h .0) (h .1) (s .pre .0) (s .pre .1 .1))
     (λ c κs. let s = c .before .before .before .before .before .before .before .before in let of = sym (c .before .before .before .before .before .list .given .1) ∙ c .before .before .before .before .before .before .before .parts-at .ensures in ready (s .pre .1 .0) (s .pre .1 .1) of (came-one of refl (c .before .before .collect-list .ensures)))
-    (λ c. search needs)
+    (λ c. c .match .keys5)
     (λ c κs. let s = c .before .before .before .before .before in call (node-held (s .pre .1 .0) refl (sym (c .before .before .b2 .given .1) ∙ c .before .before .before .before .parts-at .ensures) .0) (s .pre .0) (s .pre .1 .1))
     (λ c κs. let s = c .before .before .before .before .before .before .before .before in let h = node-held (s .pre .1 .0) refl (sym (c .before .before .before .before .before .b2 .given .1) ∙ c .before .before .before .before .before .before .before .parts-at .ensures) in call-list (h .1) (h .2) (s .pre .0) (room (c .before .before .collect-facts4 .ensures .kept) (s .pre .1 .1)))
     (λ c κs. let s = c .before .before .before .before .before .before .before .before .before .before .before in let of = sym (c .before .before .before .before .before .before .before .before .b2 .given .1) ∙ c .before .before .before .before .before .before .before .before .before .before .parts-at .ensures in ready (s .pre .1 .0) (s .pre .1 .1) of (came-two of refl (c .before .before .before .before .before .collect-facts4 .ensures) (c .before .before .collect-list2 .ensures)))
@@ -138,13 +137,13 @@ pub +collect-facts+collect-list-spec : {M : Type 1} → statement M
     (λ c. then t c .kept .long)
     (then t))
     λ t. collect-list-lts.spec (claims-list t) (collect-list-at t) collect-list.Post Inv-loop μ-loop
-    (λ c κs. search needs)
+    (λ c κs. tt)
     (λ c. let s = c .before in (omega arith, along-start (c .nothing .ensures) (s .pre .1 .0) (s .pre .1 .2)))
     (λ c κs. c .loop .inv .1 .has)
-    (λ c. search needs)
+    (λ c. c .match .keys1)
     (λ c κs. let s = c .before .before .before .before .before .before .before in let l = c .before .before .before .before .before .loop .inv in let u = parts-held (l .1) refl (sym (c .before .before .t .given .1) ∙ c .before .before .before .before .cell-at .ensures) in let below = u .0 .0 in let upto = l .0 in let e = s .pre .0 in let long = room (l .1 .kept) (s .pre .1 .1) in (omega arith, (u .0 .1, omega arith)))
     (λ c κs. let s = c .before .before .before .before .before .before .before .before .before .before in let l = c .before .before .before .before .before .before .before .before .loop .inv in let u = parts-held (l .1) refl (sym (c .before .before .before .before .before .t .given .1) ∙ c .before .before .before .before .before .before .before .cell-at .ensures) in let below = u .0 .0 in let upto = l .0 in let long = room (c .before .before .collect-facts .ensures .kept) (room (l .1 .kept) (s .pre .1 .1)) in omega arith)
-    (λ c κs. search needs)
+    (λ c κs. tt)
     (λ c. let l = c .before .before .before .before .before .before .before .before .before .before .loop .inv in let u = parts-held (l .1) refl (sym (c .before .before .before .before .before .before .before .t .given .1) ∙ c .before .before .before .before .before .before .before .before .before .cell-at .ensures) in u .1 .0)
     (cell t)
     (λ c κs. let s = c .before .before .before .before .before in room (c .before .before .before .loop .inv .1 .kept) (s .pre .1 .1))
