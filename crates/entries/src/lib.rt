@@ -35,6 +35,14 @@ pub fn part_entries(columns: &[u64; 513], i: NodeNo, check: Check, out: &mut [u3
         let mut few = [blank; 32];
         return part_noted(columns, i, check, &mut few, out);
     }
+    if i.0 < 128 {
+        let mut some = [blank; 128];
+        return part_noted(columns, i, check, &mut some, out);
+    }
+    if i.0 < 256 {
+        let mut half = [blank; 256];
+        return part_noted(columns, i, check, &mut half, out);
+    }
     let mut all = [blank; 512];
     part_noted(columns, i, check, &mut all, out)
 }

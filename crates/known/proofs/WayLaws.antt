@@ -2,11 +2,9 @@
 -- name. Assumes nothing.
 use mathlib.Core.Path.{_≡_, refl, sym, ap, _∙_, subst}
 use mathlib.Core.Bool.{Bool, true, false, true≢false}
-use mathlib.Core.List.{List, [], _∷_, _++_}
-use Prim.Native.Nat.{ℕ, _+_, _%_, _<_}
-use lib.ListN.{length, getD}
+use mathlib.Core.List.{List, [], _∷_}
+use Prim.Native.Nat.{ℕ, _<_}
 use Rattle.paper.specs.declared.Node.{Node}
-use Rattle.paper.specs.declared.Node.the-variants.{ListEnd}
 use Rattle.paper.specs.Shape.{names-in}
 use Rattle.paper.specs.Tree.{Tree}
 use Rattle.paper.proofs.Walks.{All}

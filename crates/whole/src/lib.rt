@@ -74,6 +74,14 @@ pub fn list_entries(
         let mut few = [blank; 32];
         return list_noted(columns, i, words, most, &mut few, out);
     }
+    if i.0 < 128 {
+        let mut some = [blank; 128];
+        return list_noted(columns, i, words, most, &mut some, out);
+    }
+    if i.0 < 256 {
+        let mut half = [blank; 256];
+        return list_noted(columns, i, words, most, &mut half, out);
+    }
     let mut all = [blank; 512];
     list_noted(columns, i, words, most, &mut all, out)
 }

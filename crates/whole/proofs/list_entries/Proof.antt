@@ -1,4 +1,4 @@
--- `list_entries` has a row for each node: 32 of them, or 512. Assumes nothing.
+-- `list_entries` has a row for each node: 32 of them, 128, 256 or 512. Assumes nothing.
 use borrow.Author.Needs.{needs}
 use Rattle.listing.proofs.ListingLaws.{in-all-rows}
 use Rattle.whole.proofs.list_entries.Statement.{statement}
@@ -13,6 +13,14 @@ list-entries-spec =
     (λ c. search needs)
     (λ c. search needs)
     (λ c. search needs)
-    (λ c κs. let s = c .before .before .before .before .before .pre in ((s .0, in-all-rows (s .0)), s .1))
+    (λ c κs. search needs)
+    (λ c. search needs)
+    (λ c. search needs)
+    (λ c. search needs)
+    (λ c κs. search needs)
+    (λ c. search needs)
+    (λ c. search needs)
+    (λ c. search needs)
+    (λ c κs. let s = c .before .before .before .before .before .before .before .pre in ((s .0, in-all-rows (s .0)), s .1))
     (λ c. search needs)
     (λ c. search needs))

@@ -1,5 +1,5 @@
-//! `bench`: nanoseconds a record of the list and of the four questions, reading included, beside the Rust's four checks on trees that are built already. A ratio
-//! above 1 says how many times as fast the proved library is. Each figure is the best of several runs over the same records, all measured in one call.
+//! `bench`: nanoseconds a record of the list and of each of the four questions, reading included, beside the Rust's four checks on trees that are built already. A
+//! ratio above 1 says how many times as fast the proved library is. Each figure is the best of several runs over the same records, all measured in one call.
 
 use std::collections::BTreeSet;
 use std::hint::black_box;
@@ -47,10 +47,18 @@ struct Subject {
     condition: Condition,
 }
 
+/// What each of the four questions is asked as, in the order of [`Figures::questions`].
+const QUESTIONS: [fn(&[u8]) -> u32; 4] = [
+    |bytes| Proved.scoping(bytes, 0).number,
+    |bytes| Proved.closedness(bytes).number,
+    |bytes| Proved.demands(bytes).number,
+    |bytes| Proved.arithmetic(bytes).number,
+];
+
 struct Figures {
     rust: f64,
     list: f64,
-    four: f64,
+    questions: [f64; 4],
     reading: f64,
 }
 
@@ -129,24 +137,23 @@ fn say(label: &str, subjects: &[Subject]) {
     let Figures {
         rust,
         list,
-        four,
+        questions: [scoping, closedness, demands, arithmetic],
         reading,
     } = measure(subjects);
     println!(
-        "{label}, {} nodes: the Rust's four checks {rust:.0} ns; the list {list:.0} ns, ratio {:.1}; the four questions {four:.0} ns, ratio {:.1}; reading alone {reading:.0} ns",
+        "{label}, {} nodes: the Rust's four checks {rust:.0} ns; the list {list:.0} ns, ratio {:.1}; scoping {scoping:.0}, closedness {closedness:.0}, demands {demands:.0}, arithmetic {arithmetic:.0} ns; reading alone {reading:.0} ns",
         nodes / subjects.len(),
         rust / list,
-        rust / four,
     );
 }
 
-/// The four take turns, so that a slow moment of the machine falls on all of them.
+/// All take turns, so that a slow moment of the machine falls on all of them.
 fn measure(subjects: &[Subject]) -> Figures {
     let mut lent = vec![0; ROOM];
     let mut best = Figures {
         rust: f64::MAX,
         list: f64::MAX,
-        four: f64::MAX,
+        questions: [f64::MAX; 4],
         reading: f64::MAX,
     };
     for _ in 0..RUNS {
@@ -156,9 +163,9 @@ fn measure(subjects: &[Subject]) -> Figures {
         best.list = best.list.min(timed(subjects, |subject| {
             Proved.list(&subject.bytes, &mut lent)
         }));
-        best.four = best
-            .four
-            .min(timed(subjects, |subject| the_four(&subject.bytes)));
+        for (question, least) in QUESTIONS.iter().zip(&mut best.questions) {
+            *least = least.min(timed(subjects, |subject| question(&subject.bytes)));
+        }
         best.reading = best
             .reading
             .min(timed(subjects, |subject| Proved.name(&subject.bytes, 255)));
@@ -180,15 +187,6 @@ fn the_rust(condition: &Condition) -> [bool; 4] {
         check_leaf_closed(condition).is_ok(),
         check_demands(condition).is_ok(),
         reject_arithmetic_unless_enabled(condition).is_ok(),
-    ]
-}
-
-fn the_four(bytes: &[u8]) -> [u32; 4] {
-    [
-        Proved.scoping(bytes, 0).number,
-        Proved.closedness(bytes).number,
-        Proved.demands(bytes).number,
-        Proved.arithmetic(bytes).number,
     ]
 }
 
