@@ -1,5 +1,6 @@
 // A node's facts from those of its parts, by its kind: a function for each number of parts.
 use known::Facts;
+use marks::gathered_marks;
 use memory::PLACE_0;
 use memory::PLACE_2;
 use nodes::kind_in;
@@ -19,7 +20,6 @@ use together::and_facts;
 use together::arith_facts;
 use together::bound;
 use together::compared;
-use together::gathered_marks;
 use together::join_facts;
 use together::loose;
 use together::naming;

@@ -32,11 +32,7 @@ fn refused(number: u8, offset: usize, reserved: Names) -> Scanned
 }
 
 // The names are put into the lent table, and where each node's record starts into the lent array.
-pub fn scan_records(
-    bytes: &[u8],
-    table: &mut [[u8; 24]],
-    starts: &mut [u16; 512],
-) -> Scanned
+pub fn scan_records(bytes: &[u8], table: &mut [[u8; 24]], starts: &mut [u16; 512]) -> Scanned
     requires { ⌜ Roomy (now bytes) (now table) × (length (now starts) ≡ 512) ⌝ }
     ensures { λ r. ⌜ Scan (now (bytes .entry)) r (now (starts .exit)) ⌝ }
 {

@@ -1,23 +1,22 @@
 // How the facts of parts are put together.
 use known::BINDS;
-use known::BROKEN;
 use known::COMPUTED;
 use known::Facts;
-use known::HARD;
 use known::SIGIL;
-use known::UNCLOSED;
+use marks::bound_marks;
+use marks::mark;
+use marks::searched_marks;
 use names::Names;
 use paper::Slot;
 use paper::Tied;
 use slots::slot_name;
 ghost use mathlib.Core.Path.{_≡_};
-ghost use mathlib.Core.Bool.{true, false, not, _||_, _&&_};
-ghost use Rattle.paper.specs.Record.{pick};
-ghost use Rattle.names.specs.Words.{bit, mem};
+ghost use mathlib.Core.Bool.{true, false};
+ghost use Rattle.names.specs.Words.{mem};
 ghost use Rattle.paper.specs.FreeAndRestricted.{tied-name};
 ghost use Rattle.trees.specs.Terms.{Tabled, TabledTied};
 ghost use Rattle.known.specs.Needs.{owes};
-ghost use Rattle.known.specs.Rows.{meant, Marked};
+ghost use Rattle.known.specs.Rows.{meant};
 ghost use Rattle.known.specs.Known.{nothing as no-facts, opaque as opaque-facts, naming as named-facts, both as both-facts, join, and-known, or-known, arith-known, since-known, compared as compared-facts, searched as searched-facts, loose as loose-facts, refined as refined-facts, bound as bound-facts};
 
 pub fn nothing() -> Facts
@@ -69,22 +68,6 @@ pub fn naming(own: Names) -> Facts
         need: none,
         marks: 0,
     }
-}
-
-// A mark, where it is one.
-fn mark(yes: bool, value: u64) -> u64
-    ensures { λ r. ⌜ r ≡ pick yes value 0 ⌝ }
-{
-    if yes { value } else { 0 }
-}
-
-fn bound_marks(marks: u64, met: bool, tied: bool) -> u64
-    ensures { λ r. ⌜ Marked r (bit marks 0) (bit marks 1 || not met) (bit marks 2 || (not (bit marks 0) && not tied)) true (bit marks 4) (bit marks 5) ⌝ }
-{
-    let sigil = marks / SIGIL % 2 == 1;
-    let hard = mark(!met, HARD);
-    let broken = mark(!sigil & !tied, BROKEN);
-    ((marks | BINDS) | hard) | broken
 }
 
 // A tp: its name is free and restricted.
@@ -202,13 +185,6 @@ pub fn compared(side: Tied, left: Facts, right: Facts) -> Facts
     both(left, right, given, needs)
 }
 
-fn searched_marks(marks: u64) -> u64
-    ensures { λ r. ⌜ Marked r (bit marks 0) false (bit marks 5) false false (bit marks 5) ⌝ }
-{
-    let broken = mark(marks / COMPUTED % 2 == 1, BROKEN);
-    (marks & 33) | broken
-}
-
 // What is searched and not entered, restricting these names.
 pub fn searched(part: Facts, given: Names) -> Facts
     ensures { λ r. ⌜ meant r ≡ searched-facts (meant part) (mem given) ⌝ }
@@ -272,18 +248,4 @@ pub fn bound(body: Facts, slot: Slot) -> Facts
         need: need,
         marks: marks,
     }
-}
-
-// The marks of an aggregate: whether its binders are met and it is skipped, whether one of them or the summed name is wrong, and whether it is closed.
-pub fn gathered_marks(marks: u64, met: bool, skipped: bool, wrong: bool, closed: bool) -> u64
-    ensures { λ r. ⌜ Marked r (bit marks 0) (bit marks 1 || not met) (not skipped && (bit marks 2 || wrong)) (not skipped) (not skipped && (bit marks 4 || not closed)) true ⌝ }
-{
-    let hard = mark(!met, HARD);
-    let base = ((marks & 3) | COMPUTED) | hard;
-    if skipped {
-        return base;
-    }
-    let broken = mark(wrong, BROKEN);
-    let unclosed = mark(!closed, UNCLOSED);
-    (((base | (marks & 20)) | BINDS) | broken) | unclosed
 }

@@ -170,9 +170,10 @@ loop-less c = omega arith
 loop-again : tie.Need-loop-again Inv-loop μ-loop
 loop-again c =
     let d = c .before .before .before .before in
-    let f = rw (c .before .byte .ensures, part d) at (eq-eqb _ _ (c .if1 .left)) in
-    (rw (len-is d) (format-turn _ _ _ _ _ _ _ _ _ _ _ (d .before .before .before .before .before .before .loop .inv .0) (inside d) (sym (head-is d) ∙ c .before .before .enum-told .given .1) (format-class (c .before .before)) f),
-    d .before .before .before .before .before .before .loop .inv .1)
+    let f = rw (c .before .byte .ensures, part d) at (eq-eqb _ _ (c .if1 .left)) in (
+      rw (len-is d) (format-turn _ _ _ _ _ _ _ _ _ _ _ (d .before .before .before .before .before .before .loop .inv .0) (inside d) (sym (head-is d) ∙ c .before .before .enum-told .given .1) (format-class (c .before .before)) f),
+      d .before .before .before .before .before .before .loop .inv .1,
+    )
 
 enum-told-2 : tie.Need-enum-told-2 Inv-loop μ-loop
 enum-told-2 c = search needs
@@ -217,9 +218,10 @@ loop-again-2 c =
     let i = copied-is (c .before .before .before .before .before) in
     let n = rw i at (c .before .before .before .add-name .ensures .0) in
     let m = rw i at (c .reserved-with .ensures) in
-    let fits = name-fits _ _ _ _ _ _ _ _ _ _ _ (l .inv .0) (inside d) (r .2) (r .1) in
-    (rw (len-is d, c .before .before .before .add-name .ensures .1, i) (name-turn _ _ _ _ _ _ _ _ _ _ _ (l .inv .0) (inside d) (c .reserved-with .result) (sym (head-is d) ∙ c .before .before .before .before .before .before .enum-told2 .given .1) (r .0) fits (sym n ∙ c .before .if2 .left) m),
-    ap length (c .before .before .before .add-name .ensures .1) ∙ length-set (l .table) (l .nn) (c .before .before .before .before .before .copied .result) ∙ l .inv .1)
+    let fits = name-fits _ _ _ _ _ _ _ _ _ _ _ (l .inv .0) (inside d) (r .2) (r .1) in (
+      rw (len-is d, c .before .before .before .add-name .ensures .1, i) (name-turn _ _ _ _ _ _ _ _ _ _ _ (l .inv .0) (inside d) (c .reserved-with .result) (sym (head-is d) ∙ c .before .before .before .before .before .before .enum-told2 .given .1) (r .0) fits (sym n ∙ c .before .if2 .left) m),
+      ap length (c .before .before .before .add-name .ensures .1) ∙ length-set (l .table) (l .nn) (c .before .before .before .before .before .copied .result) ∙ l .inv .1,
+    )
 
 enum-told-3 : tie.Need-enum-told-3 Inv-loop μ-loop
 enum-told-3 c = search needs
@@ -256,10 +258,11 @@ loop-less-3 c = omega arith
 loop-again-3 : tie.Need-loop-again-3 Inv-loop μ-loop
 loop-again-3 c =
     let d = c .before .before .before .before .before .before .before in
-    let r = node-room (c .before .before .before .before .before) in
-    (rw (len-is d)
-    (node-turn-by _ _ _ _ _ _ _ _ _ _ _ (d .before .before .before .before .before .before .loop .inv .0) (inside d) _ (found-is (c .before)) _ _ _ _ (c .before .add-node .ensures) (r .1) (r .0) (sym (head-is d) ∙ c .before .before .before .before .before .enum-told3 .given .1) (c .if3 .left)),
-    d .before .before .before .before .before .before .loop .inv .1)
+    let r = node-room (c .before .before .before .before .before) in (
+      rw (len-is d)
+          (node-turn-by _ _ _ _ _ _ _ _ _ _ _ (d .before .before .before .before .before .before .loop .inv .0) (inside d) _ (found-is (c .before)) _ _ _ _ (c .before .add-node .ensures) (r .1) (r .0) (sym (head-is d) ∙ c .before .before .before .before .before .enum-told3 .given .1) (c .if3 .left)),
+      d .before .before .before .before .before .before .loop .inv .1,
+    )
 
 enum-told-4 : tie.Need-enum-told-4 Inv-loop μ-loop
 enum-told-4 c = search needs

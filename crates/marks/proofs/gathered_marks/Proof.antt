@@ -1,8 +1,8 @@
 -- `gathered_marks` has the marks of an aggregate that is skipped, and of one that is entered. Assumes nothing.
 use borrow.Author.Needs.{needs}
 use Rattle.known.proofs.MarkLaws.{skipped-marked, entered-marked}
-use Rattle.together.proofs.gathered_marks.Statement.{statement}
-use Rattle.together.proofs.gathered_marks.Tie as tie
+use Rattle.marks.proofs.gathered_marks.Statement.{statement}
+use Rattle.marks.proofs.gathered_marks.Tie as tie
 
 returns : tie.Need-returns
 returns c = let s = c .before .before .args in rw (c .if1 .taken, c .before .mark .ensures) (skipped-marked (s .marks) (s .met))
