@@ -1,7 +1,7 @@
 -- The parts of the list, over the sets that the code has. Assumes nothing.
 use Prim.Native.Nat.{ℕ, _+_, _<_, _≤_}
-use mathlib.Core.Path.{_≡_, refl, sym, ap}
-use mathlib.Core.Bool.{true, false}
+use mathlib.Core.Path.{_≡_, refl, sym, ap, subst}
+use mathlib.Core.Bool.{Bool, true, false, _&&_, _||_}
 use mathlib.Core.List.{List, [], _∷_, _++_}
 use native.Mathlib.Omega.{arith}
 use lib.ListN.{length}
@@ -9,22 +9,29 @@ use Rattle.paper.specs.declared.Finding.{Finding}
 use Rattle.writes.specs.Written.{Wrote}
 use Rattle.paper.specs.declared.NodeNo.{NodeNo}
 use Rattle.paper.specs.Sets.{Set, none}
-use Rattle.paper.specs.Tree.{Condition}
+use Rattle.paper.specs.Tree.{Condition, Tree, as-condition}
 use Rattle.paper.specs.FreeAndRestricted.{free, holds-sigil}
 use Rattle.paper.specs.Places.{condition, for-names, findings}
+use Rattle.paper.specs.Record.{pick}
+use Rattle.memory.proofs.Unnamed.{and-left, and-right}
+use Rattle.writes.proofs.NameLaws.{no-names}
 use Rattle.scoping.specs.Scoped.{scoped}
+use Rattle.scoping.proofs.ScopingLaws.{sound-scoped}
+use Rattle.owed.proofs.DemandLaws.{met-demanded}
 use Rattle.owed.specs.Demanded.{demanded}
 use Rattle.record.specs.Stored.{Has}
 use Rattle.record.proofs.StoredLaws.{few}
 use Rattle.trees.specs.Trees.{tree-of, is-condition}
 use Rattle.trees.proofs.Arms.{last-body}
+use Rattle.known.specs.Needs.{has-none, met, sound}
+use Rattle.known.specs.Known.{known-of}
 use Rattle.known.specs.Rows.{Gathered, Noted}
 use Rattle.known.proofs.RowLaws.{all-noted}
 use Rattle.names.specs.declared.Names.{Names}
 use Rattle.names.specs.Words.{mem}
 use Rattle.listing.specs.declared.Check.{Check}
 use Rattle.listing.specs.declared.Check.the-variants.{Scoping, Closedness, Demands}
-use Rattle.listing.specs.Parts.{Last, demands-of, part-of, listed, Filled}
+use Rattle.listing.specs.Parts.{Last, demands-of, part-of, listed, clean, Filled}
 
 pub no-demands : (c : Condition) → holds-sigil c ≡ true → demands-of c ≡ []
 unfolding demands-of
@@ -52,6 +59,24 @@ pub listed-are : (words : Set) (n : NodeNo) (c : Condition) {scope : Set} → sc
     → listed words n c ≡ scoped words (condition c) scope ++ (findings (for-names 28 n (free c)) ++ demands-of c)
 unfolding listed
 listed-are words n c e = ap (λ (s : Set). scoped words (condition c) s ++ (findings (for-names 28 n (free c)) ++ demands-of c)) (sym e)
+
+-- nothing is told of what is clean
+module _ (words : Set) (past : (k : ℕ) → has-none words ≡ true → words k ≡ false) (t : Tree) (n : NodeNo) (is : is-condition t ≡ true) where
+  met-none : (sigil : Bool) → (sigil || met (known-of t .need) (known-of t .hard) none) ≡ true → pick sigil [] (demanded true (condition (as-condition t)) none) ≡ []
+  met-none true e = refl
+  met-none false e = met-demanded t none true is e
+
+  pub clean-listed : clean words t ≡ true → listed words n (as-condition t) ≡ []
+  unfolding clean listed demands-of has-none
+  clean-listed e =
+      let k = known-of t in
+      let first = and-left (sound (k .broken) (k .binds) (k .unclosed) (k .free) words none && has-none (free (as-condition t))) _ e in
+      let other = and-right (sound (k .broken) (k .binds) (k .unclosed) (k .free) words none && has-none (free (as-condition t))) _ e in
+      rw (
+        sound-scoped words past t none is (and-left (sound (k .broken) (k .binds) (k .unclosed) (k .free) words none) _ first),
+        no-names 28 n (free (as-condition t)) (and-right (sound (k .broken) (k .binds) (k .unclosed) (k .free) words none) _ first),
+        met-none (holds-sigil (as-condition t)) other,
+      )
 
 -- what a walk from the last node asks for, where the rows were gathered from there
 pub from-last : {columns : List ℕ} {before after : List (List ℕ)} {i : ℕ} → Last columns i × (i < length before) → Gathered columns before after i
@@ -83,6 +108,10 @@ module _ {fs : List Finding} {count : ℕ} {one counted : List ℕ} (w : Wrote f
       let t = v .total in
       let u = w .total in
       record { total = omega arith; kept = λ h. absurd (omega arith); wrote = λ h. v }
+
+-- no walk at all
+pub filled-empty : {fs : List Finding} {before : List ℕ} → fs ≡ [] → Filled fs 0 before before
+filled-empty {before = before} e = subst (λ (z : List Finding). Filled z 0 before before) (sym e) (record { total = refl; kept = λ h. refl; wrote = λ h. record { total = refl; put = refl } })
 
 -- the walk that writes at once
 pub filled-at-once : {fs : List Finding} {most next : ℕ} {before after : List ℕ} → length fs ≤ most → most ≤ length before → Wrote fs 0 next before after → Filled fs next before after

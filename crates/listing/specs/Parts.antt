@@ -1,17 +1,19 @@
 -- The parts of the list of a condition that is a root. Assumes nothing: these are definitions.
 use Prim.Native.Nat.{ℕ, _+_, _<_, _≤_}
 use mathlib.Core.Path.{_≡_}
-use mathlib.Core.Bool.{true}
+use mathlib.Core.Bool.{Bool, true, _&&_, _||_}
 use mathlib.Core.List.{List, [], _++_}
 use Rattle.paper.specs.declared.NodeNo.{NodeNo}
 use Rattle.paper.specs.declared.Finding.{Finding}
 use Rattle.paper.specs.Record.{pick}
 use Rattle.paper.specs.Sets.{Set, none}
-use Rattle.paper.specs.Tree.{Condition}
+use Rattle.paper.specs.Tree.{Condition, Tree, as-condition}
 use Rattle.paper.specs.FreeAndRestricted.{free, holds-sigil}
 use Rattle.paper.specs.Places.{condition, for-names, findings}
 use lib.ListN.{length}
 use Rattle.record.specs.Stored.{held, Has}
+use Rattle.known.specs.Needs.{has-none, met, sound}
+use Rattle.known.specs.Known.{known-of}
 use Rattle.writes.specs.Written.{Wrote}
 use Rattle.scoping.specs.Scoped.{scoped}
 use Rattle.names.specs.Words.{mem}
@@ -31,6 +33,12 @@ part-of Demands n c = demands-of c
 -- with these words reserved
 unfoldable pub listed : Set → NodeNo → Condition → List Finding
 listed words n c = scoped words (condition c) none ++ (findings (for-names 28 n (free c)) ++ demands-of c)
+
+-- by what is known of it, nothing is to be told of a root; it may say no where there is nothing
+unfoldable pub clean : Set → Tree → Bool
+clean words t =
+    (sound (known-of t .broken) (known-of t .binds) (known-of t .unclosed) (known-of t .free) words none && has-none (free (as-condition t)))
+    && (holds-sigil (as-condition t) || met (known-of t .need) (known-of t .hard) none)
 
 -- the columns hold node i, and it is the last
 pub record Last (columns : List ℕ) (i : ℕ) : Type 0 where

@@ -4,6 +4,9 @@ use demands::check_chain;
 use names::Names;
 use paper::NodeNo;
 use rows::read::body_has_sigil;
+use rows::read::collect_free;
+use rows::read::is_met;
+use rows::read::is_sound;
 use scoping::check_condition;
 ghost use mathlib.Core.Path.{_≡_};
 ghost use mathlib.Core.Bool.{true};
@@ -12,7 +15,7 @@ ghost use Rattle.record.specs.Stored.{Has};
 ghost use Rattle.known.specs.Rows.{Noted};
 ghost use Rattle.trees.specs.Trees.{tree-of, condition-of, is-condition};
 ghost use Rattle.writes.specs.Written.{Room, Wrote};
-ghost use Rattle.listing.specs.Parts.{demands-of, part-of, listed};
+ghost use Rattle.listing.specs.Parts.{demands-of, part-of, listed, clean};
 
 // What one part of the list is asked for.
 pub enum Check {
@@ -75,4 +78,18 @@ pub fn write_list(
     let p = check_condition(columns, rows, i, scope, words, out, 0);
     let q = check_leaf_closed(columns, rows, i, out, p);
     check_demands(columns, rows, i, out, q)
+}
+
+// Whether nothing is to be told of a root: then no walk has to begin.
+pub fn is_clean(columns: &[u64; 513], rows: &[[u64; 7]], i: NodeNo, words: Names) -> bool
+    requires { ⌜ Has (now columns) (i .0) × Noted (now columns) (now rows) × (is-condition (tree-of (now columns) (i .0)) ≡ true) ⌝ }
+    ensures { λ r. ⌜ r ≡ clean (mem words) (tree-of (now (columns .entry)) (i .0)) ⌝ }
+{
+    let none = names::empty();
+    let sound = is_sound(columns, rows, i, words, none);
+    let free = collect_free(columns, rows, i);
+    let closed = names::is_empty(free);
+    let sigil = body_has_sigil(columns, rows, i);
+    let met = is_met(columns, rows, i, none);
+    (sound & closed) & (sigil | met)
 }

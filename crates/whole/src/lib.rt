@@ -1,5 +1,6 @@
 // The rows, and over them the whole list.
 use facts::collect_facts;
+use listing::is_clean;
 use listing::write_list;
 use names::Names;
 use paper::NodeNo;
@@ -37,7 +38,7 @@ fn list_counted(
     write_list(columns, rows, i, words, out)
 }
 
-// Written at once where so many entries fit, since there are no more of them.
+// None where the root is clean; written at once where so many entries fit, since there are no more of them.
 fn list_noted(
     columns: &[u64; 513],
     i: NodeNo,
@@ -51,6 +52,9 @@ fn list_noted(
     ensures { λ r. ⌜ Filled (listed (mem words) i (condition-of (now (columns .entry)) (i .0))) r (now (out .entry)) (now (out .exit)) ⌝ }
 {
     collect_facts(columns, rows, i);
+    if is_clean(columns, rows, i, words) {
+        return 0;
+    }
     if most <= out.len() {
         return write_list(columns, rows, i, words, out);
     }
