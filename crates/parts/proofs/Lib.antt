@@ -1,2 +1,3 @@
 pub mod EnteredLaws
-pub mod PartsLaws
+pub mod SeenLaws
+pub mod ViewLaws
