@@ -23,7 +23,7 @@ pub held-arm : {columns : List ℕ} {i : ℕ} → Has columns i → Arm columns 
 held-arm h = arm _ _ _ _ h refl refl
 
 module _ (columns : List ℕ) (i : ℕ) where
-  abbrev OperandArm : Operand → Type 0
+  abbrev pub OperandArm : Operand → Type 0
   OperandArm operand.Plain = Unit {0}
   OperandArm (operand.Array l) = Arm columns i (node.Array l)
   OperandArm (operand.Arith l r) = (o : ℕ) × Arm columns i (node.Arith o l r)
@@ -37,7 +37,7 @@ module _ (columns : List ℕ) (i : ℕ) where
       (λ s a. tt) (λ y a. tt) (λ y a. tt) (λ x a. tt) (λ a. tt) (λ y a. tt) (λ y a. tt) (λ y a. tt) (λ k a. tt) (λ k a. tt) (λ l a. a) (λ o l r a. (o, a))
       (λ s l b a. (node.Sum s l b, sum, a)) (λ l b a. (node.Count l b, count, a)) (λ y a. tt) (λ a. tt) (λ f x l a. tt) (λ x l a. tt) (λ s y l a. tt)
 
-  abbrev ItselfArm : Itself → Type 0
+  abbrev pub ItselfArm : Itself → Type 0
   ItselfArm itself.Other = Unit {0}
   ItselfArm (itself.Exists s b) = (y : ℕ) × Arm columns i (node.Exists s y b)
   ItselfArm (itself.Predicate l) = (q : ℕ) × Arm columns i (node.Predicate q l)
@@ -51,7 +51,7 @@ module _ (columns : List ℕ) (i : ℕ) where
       (λ b l a. tt) (λ s a. a) (λ y a. tt) (λ y a. tt) (λ x a. tt) (λ a. tt) (λ y a. tt) (λ y a. tt) (λ y a. tt) (λ k a. tt) (λ k a. tt) (λ l a. tt)
       (λ o l r a. tt) (λ s l b a. tt) (λ l b a. tt) (λ y a. tt) (λ a. tt) (λ f x l a. tt) (λ x l a. tt) (λ s y l a. tt)
 
-  abbrev OwingArm : Owing → Type 0
+  abbrev pub OwingArm : Owing → Type 0
   OwingArm owing.Other = Unit {0}
   OwingArm (owing.And l) = (r : NodeNo) × Arm columns i (node.And l r)
   OwingArm (owing.Not b) = Arm columns i (node.Not b)
