@@ -58,14 +58,14 @@ module _ (columns : List ℕ) (i : ℕ) where
   OwingArm (owing.Since l r) = (w : ℕ) × Arm columns i (node.Since l r w)
   OwingArm (owing.Exists s) = (y : ℕ) × (b : NodeNo) × Arm columns i (node.Exists s y b)
   OwingArm (owing.Comparison o l r) = Arm columns i (node.Comparison o l r)
-  OwingArm owing.Refine = Unit {0}
+  OwingArm owing.Refine = (b : NodeNo) × (l : NodeNo) × Arm columns i (node.Refine b l)
 
   owing-arm : (m : Node) → Arm columns i m → OwingArm (seen-owing m)
   unfolding seen-owing
   owing-arm =
       by-kind (λ m. Arm columns i m → OwingArm (seen-owing m))
       (λ l r a. (r, a)) (λ l r a. tt) (λ b a. a) (λ b w a. tt) (λ b w a. tt) (λ l r w a. (w, a)) (λ s y b a. (y, b, a)) (λ o l r a. a) (λ q l a. tt)
-      (λ b l a. tt) (λ s a. tt) (λ y a. tt) (λ y a. tt) (λ x a. tt) (λ a. tt) (λ y a. tt) (λ y a. tt) (λ y a. tt) (λ k a. tt) (λ k a. tt) (λ l a. tt)
+      (λ b l a. (b, l, a)) (λ s a. tt) (λ y a. tt) (λ y a. tt) (λ x a. tt) (λ a. tt) (λ y a. tt) (λ y a. tt) (λ y a. tt) (λ k a. tt) (λ k a. tt) (λ l a. tt)
       (λ o l r a. tt) (λ s l b a. tt) (λ l b a. tt) (λ y a. tt) (λ a. tt) (λ f x l a. tt) (λ x l a. tt) (λ s y l a. tt)
 
 module _ {columns : List ℕ} {i : ℕ} {m : Node} where
