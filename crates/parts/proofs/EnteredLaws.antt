@@ -57,7 +57,7 @@ module _ (t : ℕ → Tree) (n : NodeNo) (P : Below → cond → Type 0)
 
 module _ (columns : List ℕ) (i : ℕ) where
   -- what a walk knows of where it goes on
-  abbrev Entered : Below → Type 0
+  abbrev pub Entered : Below → Type 0
   Entered Nothing = Unit
   Entered (Condition b) = Child columns i condition (b .0)
   Entered (Conditions l r) = Child columns i condition (l .0) × Child columns i condition (r .0)
