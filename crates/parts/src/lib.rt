@@ -10,7 +10,6 @@ use nodes::kind_in;
 use nodes::lower;
 use nodes::number_in;
 use nodes::slot_in;
-use paper::Node;
 use paper::NodeNo;
 use paper::Slot;
 use record::access::word_at;
@@ -96,22 +95,6 @@ pub fn parts_at(columns: &[u64; 513], i: NodeNo) -> Parts
     let p3 = number_in(word, PLACE_3);
     let p4 = number_in(word, PLACE_4);
     parts_in(kind, p0, p1, p2, p3, p4)
-}
-
-// The conditions or the operands of a condition; a refinement's fields and a predicate's arguments are not entered.
-pub fn entered_below(node: Node) -> Below
-    ensures { λ r. ⌜ r ≡ entered-below node ⌝ }
-{
-    match node {
-        Node::And(l, r) | Node::Or(l, r) | Node::Since(l, r, _) => Below::Conditions(l, r),
-        Node::Not(b)
-        | Node::Formerly(b, _)
-        | Node::Previous(b, _)
-        | Node::Exists(_, _, b)
-        | Node::Refine(b, _) => Below::Condition(b),
-        Node::Comparison(_, l, r) => Below::Operands(l, r),
-        _ => Below::Nothing,
-    }
 }
 
 // A refinement's fields and a predicate's arguments are not entered.
