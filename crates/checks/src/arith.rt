@@ -1,9 +1,9 @@
 // Whether arithmetic is an operand of a comparison.
-use paper::Node;
 use paper::NodeNo;
-use parts::Below;
-use parts::entered_below;
-use record::access::node_at;
+use views::Below;
+use views::Operand;
+use views::below_at;
+use views::operand_at;
 ghost use mathlib.Core.Path.{_≡_};
 ghost use Rattle.paper.specs.Demands.{has-arith, operand-arith};
 ghost use Rattle.record.specs.Stored.{Has};
@@ -13,8 +13,7 @@ pub fn condition_has_arith(columns: &[u64; 513], i: NodeNo) -> bool
     requires { ⌜ Has (now columns) (i .0) ⌝ }
     ensures { λ r. ⌜ r ≡ has-arith (condition-of (now (columns .entry)) (i .0)) ⌝ }
 {
-    let node = node_at(columns, i);
-    match entered_below(node) {
+    match below_at(columns, i) {
         Below::Nothing => false,
         Below::Condition(b) => condition_has_arith(columns, b),
         Below::Conditions(l, r) => {
@@ -29,10 +28,9 @@ pub fn term_has_arith(columns: &[u64; 513], i: NodeNo) -> bool
     requires { ⌜ Has (now columns) (i .0) ⌝ }
     ensures { λ r. ⌜ r ≡ operand-arith (term-of (now (columns .entry)) (i .0)) ⌝ }
 {
-    let node = node_at(columns, i);
-    match node {
-        Node::Arith(_, _, _) => true,
-        Node::Sum(_, _, body) | Node::Count(_, body) => condition_has_arith(columns, body),
+    match operand_at(columns, i) {
+        Operand::Arith(_, _) => true,
+        Operand::Aggregate(_, body) => condition_has_arith(columns, body),
         _ => false,
     }
 }

@@ -4,13 +4,13 @@ use owed::asked_first;
 use owed::check_own_demands;
 use owed::tied_first;
 use owed::tied_second;
-use paper::Node;
 use paper::NodeNo;
-use parts::Below;
-use parts::entered_below;
-use record::access::node_at;
 use rows::read::is_met;
 use slots::without_binders;
+use views::Below;
+use views::Operand;
+use views::below_at;
+use views::operand_at;
 ghost use mathlib.Core.Path.{_≡_};
 ghost use mathlib.Core.Bool.{true};
 ghost use Rattle.paper.specs.Places.{condition, operand};
@@ -38,19 +38,18 @@ pub fn check_chain(
     if is_met(columns, rows, i, tied) {
         return at;
     }
-    let node = node_at(columns, i);
-    let p = check_own_demands(columns, rows, i, node, tied, asked, out, at);
-    let below = entered_below(node);
+    let p = check_own_demands(columns, rows, i, tied, asked, out, at);
+    let below = below_at(columns, i);
     match below {
         Below::Nothing => p,
         Below::Condition(b) => {
-            let inner = tied_first(columns, rows, i, node, tied);
-            let further = asked_first(node);
+            let inner = tied_first(columns, rows, i, tied);
+            let further = asked_first(columns, i);
             check_chain(columns, rows, b, inner, further, out, p)
         }
         Below::Conditions(l, r) => {
-            let first = tied_first(columns, rows, i, node, tied);
-            let second = tied_second(columns, rows, i, node, tied);
+            let first = tied_first(columns, rows, i, tied);
+            let second = tied_second(columns, rows, i, tied);
             let q = check_chain(columns, rows, l, first, true, out, p);
             check_chain(columns, rows, r, second, true, out, q)
         }
@@ -77,13 +76,13 @@ pub fn descend_nested_chains(
     if is_met(columns, rows, i, tied) {
         return at;
     }
-    let node = node_at(columns, i);
-    match node {
-        Node::Arith(_, l, r) => {
+    let operand = operand_at(columns, i);
+    match operand {
+        Operand::Arith(l, r) => {
             let p = descend_nested_chains(columns, rows, l, tied, out, at);
             descend_nested_chains(columns, rows, r, tied, out, p)
         }
-        Node::Sum(_, binders, body) | Node::Count(binders, body) => {
+        Operand::Aggregate(binders, body) => {
             let inner = without_binders(columns, tied, binders);
             check_chain(columns, rows, body, inner, true, out, at)
         }

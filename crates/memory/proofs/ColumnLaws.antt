@@ -13,8 +13,9 @@ use borrow.Author.Tests.{eqb-true}
 use Rattle.paper.specs.declared.Node.{Node}
 use Rattle.paper.specs.declared.Node.the-variants.{ListEnd}
 use Rattle.paper.specs.Record.{pick, Field, to, name-number, symbol, octet, comparison-op, arith-op, slot, field-bytes, two-bytes, value, values, Announced, format, name, end, unknown, node, announced}
+use Rattle.memory.specs.declared.Numbers.{Numbers}
 use Rattle.memory.specs.Decoded.{node-read, node-from}
-use Rattle.memory.specs.Columns.{said-by, values-in, node-said, second-place, third-place, node-told, node-in, first-nodes, held, Copies}
+use Rattle.memory.specs.Columns.{said-by, values-in, node-said, second-place, third-place, node-told, told-by, numbers-in, node-in, first-nodes, held, Copies}
 use Rattle.memory.proofs.Unnamed.{and-left, and-right}
 use Rattle.memory.proofs.KindLaws.{begin?, places, known}
 
@@ -110,12 +111,10 @@ pub held-at : (words : List ℕ) (i : ℕ) → i < length (held words) → getD 
 unfolding held
 held-at words i h = first-at words (getD words 512 0) i (let z = long-first words (getD words 512 0) in omega arith)
 
--- what is asked of a node that is held may be asked of its word
-pub asked-of : {A : Type 0} (f : Node → A) (words : List ℕ) (i w k a b c d e : ℕ) {t : A} → i < length (held words) → w ≡ getD words i 0 → k ≡ w % 0x100 → a ≡ w / 0x100 % 0x10000
-    → b ≡ w / 0x10000 % 0x10000 → c ≡ w / 0x1000000 % 0x10000 → d ≡ w / 0x100000000 % 0x10000 → e ≡ w / 0x10000000000 % 0x10000
-    → t ≡ f (node-told k (a ∷ b ∷ c ∷ d ∷ e ∷ [])) → t ≡ f (getD (held words) i ListEnd)
-asked-of f words i w k a b c d e h ew ek ea eb ec ed ee q =
-    q ∙ ap f (rw (ek, ea, eb, ec, ed, ee, ew)) ∙ ap f (sym (held-at words i h))
+-- what is asked of a node that is held may be asked of its numbers
+pub asked-of : {A : Type 0} (f : Node → A) (words : List ℕ) (i : ℕ) (n : Numbers) {t : A} → i < length (held words) → n ≡ numbers-in (getD words i 0)
+    → t ≡ f (told-by n) → t ≡ f (getD (held words) i ListEnd)
+asked-of f words i n h e q = q ∙ ap (λ (m : Numbers). f (told-by m)) e ∙ ap f (sym (held-at words i h))
 
 -- what was copied is held
 pub copied-held : (bytes starts words : List ℕ) (ms : List Node) → Copies bytes starts (length ms) words

@@ -10,6 +10,7 @@ use lib.ListN.{getD}
 use Rattle.paper.specs.declared.Node.{Node}
 use Rattle.paper.specs.declared.Node.the-variants.{ListEnd}
 use Rattle.paper.specs.Record.{pick, Field, to, name-number, symbol, octet, comparison-op, arith-op, slot, slot-of, kinds, Announced, format, name, end, unknown, node, node-kind, announced}
+use Rattle.memory.specs.declared.Numbers.{Numbers}
 use Rattle.memory.specs.Decoded.{node-from}
 
 -- ---- a node from its word
@@ -54,6 +55,21 @@ node-told k ps = node-said (announced k) (getD ps 0 0 ∷ getD ps (second-place 
 abbrev pub places-in : ℕ → List ℕ
 places-in w =
     w / 0x100 % 0x10000 ∷ w / 0x10000 % 0x10000 ∷ w / 0x1000000 % 0x10000 ∷ w / 0x100000000 % 0x10000 ∷ w / 0x10000000000 % 0x10000 ∷ []
+
+-- the same as the code has it
+abbrev pub told-by : Numbers → Node
+told-by n = node-told (n .kind) (n .p0 ∷ n .p1 ∷ n .p2 ∷ n .p3 ∷ n .p4 ∷ [])
+
+abbrev pub numbers-in : ℕ → Numbers
+numbers-in w =
+    record {
+      kind = w % 0x100;
+      p0 = w / 0x100 % 0x10000;
+      p1 = w / 0x10000 % 0x10000;
+      p2 = w / 0x1000000 % 0x10000;
+      p3 = w / 0x100000000 % 0x10000;
+      p4 = w / 0x10000000000 % 0x10000;
+    }
 
 abbrev pub node-in : List ℕ → ℕ → Node
 node-in words i = node-told (getD words i 0 % 0x100) (places-in (getD words i 0))

@@ -36,6 +36,16 @@ pub struct Scanned {
     pub reserved: Names,
 }
 
+// A node's record in numbers: its kind, and the two bytes at each place of its body.
+pub struct Numbers {
+    pub kind: u8,
+    pub p0: u16,
+    pub p1: u16,
+    pub p2: u16,
+    pub p3: u16,
+    pub p4: u16,
+}
+
 // Nodes as words: how many there are stands behind them.
 pub const COUNT: usize = 512;
 

@@ -1,12 +1,11 @@
 -- What is demanded from a node on: by `found-at`, a condition's own entries if it is asked, and then what is found below, with what is tied there; for each
 -- kind from its parts. Assumes nothing.
-use mathlib.Core.Path.{_≡_, refl, sym, ap, ap₂, _∙_}
+use mathlib.Core.Path.{_≡_, refl, sym, ap, ap₂, _∙_, subst}
 use mathlib.Core.Bool.{Bool, true, false}
 use mathlib.Core.List.{List, [], _∷_, _++_, append-nil}
 use Prim.Native.Nat.{ℕ}
 use types.Run.{OneOf, miss}
 use denote.Enum.Declared.{tagOf}
-use Rattle.paper.proofs.Node.{the-type}
 use Rattle.paper.specs.declared.NodeNo.{NodeNo}
 use Rattle.paper.specs.declared.NameNo.{NameNo}
 use Rattle.paper.specs.declared.Finding.{Finding}
@@ -31,11 +30,18 @@ use Rattle.paper.proofs.Exact.{extent-pos, demand-shrinks}
 use Rattle.trees.specs.Trees.{tree-of, condition-of, term-of, binders-of, is-condition, is-term}
 use Rattle.trees.proofs.Arms.{Arm}
 use Rattle.trees.proofs.Shapes.{Aggregate, sum, count}
-use Rattle.trees.proofs.ByKind.{condition-kinds, no-other, condition-cases, term-cases}
-use Rattle.parts.specs.declared.Below.{Below}
-use Rattle.parts.specs.declared.Below.the-variants as below
-use Rattle.parts.specs.Entered.{entered-below}
-use Rattle.parts.proofs.EnteredLaws.{entered-cases}
+use Rattle.trees.proofs.ByKind.{condition-cases, term-cases}
+use Rattle.views.specs.declared.Below.{Below}
+use Rattle.views.specs.declared.Below.the-variants as below
+use Rattle.views.specs.declared.Operand.{Operand}
+use Rattle.views.specs.declared.Owing.{Owing}
+use Rattle.views.specs.declared.Owing.the-variants.{Other, And, Not, Since, Exists, Comparison, Refine}
+use Rattle.views.specs.Entered.{entered-below}
+use Rattle.views.specs.Seen.{seen-operand, seen-owing}
+use Rattle.views.proofs.Operand.{the-type as operand-type}
+use Rattle.views.proofs.Owing.{the-type as owing-type}
+use Rattle.views.proofs.EnteredLaws.{entered-cases}
+use Rattle.views.proofs.SeenLaws.{OwingArm, owing-told}
 use Rattle.writes.specs.Written.{Room, Wrote}
 use native.Mathlib.Nat.{le-refl}
 use Rattle.writes.proofs.WriteLaws.{wrote-then, wrote-is, room-is, room-first, room-rest}
@@ -152,10 +158,6 @@ module _ (ties : Set) {columns : List ℕ} {i : ℕ} where
   unfolding planted as-condition demand-below place-below
   second-and a e g = g ∙ ap₂ _∪_ refl e ∙ sym (at-place (λ (p : Place). p .names) 1 a)
 
-  -- whether the first part is asked, as the node says
-  pub first-is-asked : {asked : Bool} {m : Node} → Arm columns i m → FirstAsked m asked → asked ≡ place-below 0 (condition-of columns i) ties .asked
-  first-is-asked a says = says _ _ _ ∙ sym (at-place (λ (p : Place). p .asked) 0 a)
-
   -- ---- from an operand on
 
   in-operand : {m : Node} → Arm columns i m
@@ -225,87 +227,99 @@ module _ (ties : Set) {columns : List ℕ} {i : ℕ} where
 
 -- all but Not, Since and a comparison
 abbrev no-demand-kinds : List ℕ
-no-demand-kinds = 0 ∷ 1 ∷ 3 ∷ 4 ∷ 6 ∷ 8 ∷ 9 ∷ 10 ∷ 11 ∷ 12 ∷ 13 ∷ 14 ∷ 15 ∷ 16 ∷ 17 ∷ 18 ∷ 19 ∷ 20 ∷ 21 ∷ 22 ∷ 23 ∷ 24 ∷ 25 ∷ 26 ∷ 27 ∷ 28 ∷ []
+no-demand-kinds = 0 ∷ 1 ∷ 4 ∷ 6 ∷ []
 
-no-demand : (ties : Set) (t : ℕ → Tree) (n : NodeNo) (m : Node) → OneOf no-demand-kinds (tagOf the-type m) → owed (as-condition (planted t n m)) ties ≡ []
-unfolding owed demand-broken gather
+no-demand : (ties : Set) (t : ℕ → Tree) (n : NodeNo) (m : Node) → OneOf no-demand-kinds (tagOf owing-type (seen-owing m)) → owed (as-condition (planted t n m)) ties ≡ []
+unfolding owed demand-broken gather seen-owing
 no-demand ties t n =
-    condition-cases t n (λ m z. OneOf no-demand-kinds (tagOf the-type m) → owed z ties ≡ [])
+    condition-cases t n (λ m z. OneOf no-demand-kinds (tagOf owing-type (seen-owing m)) → owed z ties ≡ [])
     (λ l r h. refl) (λ l r h. refl) (λ b h. absurd (miss no-demand-kinds 2 tt h)) (λ b w h. refl) (λ b w h. refl)
-    (λ l r w h. absurd (miss no-demand-kinds 5 tt h)) (λ s y b h. refl) (λ o l r h. absurd (miss no-demand-kinds 7 tt h)) (λ a l h. refl)
+    (λ l r w h. absurd (miss no-demand-kinds 3 tt h)) (λ s y b h. refl) (λ o l r h. absurd (miss no-demand-kinds 5 tt h)) (λ a l h. refl)
     (λ b l h. refl) (λ s h. refl) (λ y h. refl) (λ y h. refl) (λ m e h. refl)
-
-pub owed-none : (ties : Set) {columns : List ℕ} {i : ℕ} {m : Node} → Arm columns i m → OneOf no-demand-kinds (tagOf the-type m)
-    → owed (condition-of columns i) ties ≡ []
-owed-none ties a h = in-owed ties a ∙ no-demand ties _ _ _ h
 
 -- neither arithmetic nor an aggregate with a body
 abbrev no-body-kinds : List ℕ
-no-body-kinds = 0 ∷ 1 ∷ 2 ∷ 3 ∷ 4 ∷ 5 ∷ 6 ∷ 7 ∷ 8 ∷ 9 ∷ 10 ∷ 11 ∷ 12 ∷ 13 ∷ 14 ∷ 15 ∷ 16 ∷ 17 ∷ 18 ∷ 19 ∷ 20 ∷ 24 ∷ 25 ∷ 26 ∷ 27 ∷ 28 ∷ []
+no-body-kinds = 0 ∷ 1 ∷ []
 
-no-body : (ties : Set) (t : ℕ → Tree) (n : NodeNo) (m : Node) → OneOf no-body-kinds (tagOf the-type m) → demanded true (operand (as-term (planted t n m))) ties ≡ []
-unfolding demanded demand-below demand-broken gather
+no-body : (ties : Set) (t : ℕ → Tree) (n : NodeNo) (m : Node) → OneOf no-body-kinds (tagOf operand-type (seen-operand m)) → demanded true (operand (as-term (planted t n m))) ties ≡ []
+unfolding demanded demand-below demand-broken gather seen-operand
 no-body ties t n =
-    term-cases t n (λ m z. OneOf no-body-kinds (tagOf the-type m) → demanded true (operand z) ties ≡ [])
+    term-cases t n (λ m z. OneOf no-body-kinds (tagOf operand-type (seen-operand m)) → demanded true (operand z) ties ≡ [])
     (λ x h. at-operand _ ties) (λ h. at-operand _ ties) (λ y h. at-operand _ ties) (λ y h. at-operand _ ties) (λ y h. at-operand _ ties)
-    (λ k h. at-operand _ ties) (λ k h. at-operand _ ties) (λ l h. at-operand _ ties) (λ o l r h. absurd (miss no-body-kinds 21 tt h))
-    (λ s l b h. absurd (miss no-body-kinds 22 tt h)) (λ l b h. absurd (miss no-body-kinds 23 tt h)) (λ y h. at-operand _ ties)
+    (λ k h. at-operand _ ties) (λ k h. at-operand _ ties) (λ l h. at-operand _ ties) (λ o l r h. absurd (miss no-body-kinds 2 tt h))
+    (λ s l b h. absurd (miss no-body-kinds 3 tt h)) (λ l b h. absurd (miss no-body-kinds 3 tt h)) (λ y h. at-operand _ ties)
     (λ m e h. at-operand _ ties)
-
-pub operand-none : (ties : Set) {columns : List ℕ} {i : ℕ} {m : Node} → Arm columns i m → OneOf no-body-kinds (tagOf the-type m)
-    → demanded true (operand (term-of columns i)) ties ≡ []
-operand-none ties a h = in-operand ties a ∙ no-body ties _ _ _ h
 
 -- all but Since and Exists
 abbrev same-first-kinds : List ℕ
-same-first-kinds =
-    0 ∷ 1 ∷ 2 ∷ 3 ∷ 4 ∷ 7 ∷ 8 ∷ 9 ∷ 10 ∷ 11 ∷ 12 ∷ 13 ∷ 14 ∷ 15 ∷ 16 ∷ 17 ∷ 18 ∷ 19 ∷ 20 ∷ 21 ∷ 22 ∷ 23 ∷ 24 ∷ 25 ∷ 26 ∷ 27 ∷ 28 ∷ []
+same-first-kinds = 0 ∷ 1 ∷ 2 ∷ 5 ∷ 6 ∷ []
 
-same-first : (ties : Set) (t : ℕ → Tree) (n : NodeNo) (m : Node) → OneOf same-first-kinds (tagOf the-type m) → place-below 0 (as-condition (planted t n m)) ties .names ≡ ties
-unfolding demand-below place-below
+same-first : (ties : Set) (t : ℕ → Tree) (n : NodeNo) (m : Node) → OneOf same-first-kinds (tagOf owing-type (seen-owing m))
+    → place-below 0 (as-condition (planted t n m)) ties .names ≡ ties
+unfolding demand-below place-below seen-owing
 same-first ties t n =
-    condition-cases t n (λ m z. OneOf same-first-kinds (tagOf the-type m) → place-below 0 z ties .names ≡ ties)
-    (λ l r h. refl) (λ l r h. refl) (λ b h. refl) (λ b w h. refl) (λ b w h. refl) (λ l r w h. absurd (miss same-first-kinds 5 tt h))
-    (λ s y b h. absurd (miss same-first-kinds 6 tt h)) (λ o l r h. refl) (λ a l h. refl) (λ b l h. refl) (λ s h. refl) (λ y h. refl) (λ y h. refl) (λ m e h. refl)
+    condition-cases t n (λ m z. OneOf same-first-kinds (tagOf owing-type (seen-owing m)) → place-below 0 z ties .names ≡ ties)
+    (λ l r h. refl) (λ l r h. refl) (λ b h. refl) (λ b w h. refl) (λ b w h. refl) (λ l r w h. absurd (miss same-first-kinds 3 tt h))
+    (λ s y b h. absurd (miss same-first-kinds 4 tt h)) (λ o l r h. refl) (λ a l h. refl) (λ b l h. refl) (λ s h. refl) (λ y h. refl) (λ y h. refl) (λ m e h. refl)
 
 -- all but And
 abbrev same-second-kinds : List ℕ
-same-second-kinds =
-    1 ∷ 2 ∷ 3 ∷ 4 ∷ 5 ∷ 6 ∷ 7 ∷ 8 ∷ 9 ∷ 10 ∷ 11 ∷ 12 ∷ 13 ∷ 14 ∷ 15 ∷ 16 ∷ 17 ∷ 18 ∷ 19 ∷ 20 ∷ 21 ∷ 22 ∷ 23 ∷ 24 ∷ 25 ∷ 26 ∷ 27 ∷ 28 ∷ []
+same-second-kinds = 0 ∷ 2 ∷ 3 ∷ 4 ∷ 5 ∷ 6 ∷ []
 
-same-second : (ties : Set) (t : ℕ → Tree) (n : NodeNo) (m : Node) → OneOf same-second-kinds (tagOf the-type m) → place-below 1 (as-condition (planted t n m)) ties .names ≡ ties
-unfolding demand-below place-below
+same-second : (ties : Set) (t : ℕ → Tree) (n : NodeNo) (m : Node) → OneOf same-second-kinds (tagOf owing-type (seen-owing m))
+    → place-below 1 (as-condition (planted t n m)) ties .names ≡ ties
+unfolding demand-below place-below seen-owing
 same-second ties t n =
-    condition-cases t n (λ m z. OneOf same-second-kinds (tagOf the-type m) → place-below 1 z ties .names ≡ ties)
-    (λ l r h. absurd (miss same-second-kinds 0 tt h)) (λ l r h. refl) (λ b h. refl) (λ b w h. refl) (λ b w h. refl) (λ l r w h. refl)
+    condition-cases t n (λ m z. OneOf same-second-kinds (tagOf owing-type (seen-owing m)) → place-below 1 z ties .names ≡ ties)
+    (λ l r h. absurd (miss same-second-kinds 1 tt h)) (λ l r h. refl) (λ b h. refl) (λ b w h. refl) (λ b w h. refl) (λ l r w h. refl)
     (λ s y b h. refl) (λ o l r h. refl) (λ a l h. refl) (λ b l h. refl) (λ s h. refl) (λ y h. refl) (λ y h. refl) (λ m e h. refl)
 
 -- all but Not and Refine
 abbrev asked-kinds : List ℕ
-asked-kinds = 0 ∷ 1 ∷ 3 ∷ 4 ∷ 5 ∷ 6 ∷ 7 ∷ 8 ∷ 10 ∷ 11 ∷ 12 ∷ 13 ∷ 14 ∷ 15 ∷ 16 ∷ 17 ∷ 18 ∷ 19 ∷ 20 ∷ 21 ∷ 22 ∷ 23 ∷ 24 ∷ 25 ∷ 26 ∷ 27 ∷ 28 ∷ []
+asked-kinds = 0 ∷ 1 ∷ 3 ∷ 4 ∷ 5 ∷ []
 
-pub first-asked : (ties : Set) (t : ℕ → Tree) (n : NodeNo) (m : Node) → OneOf asked-kinds (tagOf the-type m) → place-below 0 (as-condition (planted t n m)) ties .asked ≡ true
-unfolding demand-below place-below
-first-asked ties t n =
-    condition-cases t n (λ m z. OneOf asked-kinds (tagOf the-type m) → place-below 0 z ties .asked ≡ true)
+asked : (ties : Set) (t : ℕ → Tree) (n : NodeNo) (m : Node) → OneOf asked-kinds (tagOf owing-type (seen-owing m))
+    → place-below 0 (as-condition (planted t n m)) ties .asked ≡ true
+unfolding demand-below place-below seen-owing
+asked ties t n =
+    condition-cases t n (λ m z. OneOf asked-kinds (tagOf owing-type (seen-owing m)) → place-below 0 z ties .asked ≡ true)
     (λ l r h. refl) (λ l r h. refl) (λ b h. absurd (miss asked-kinds 2 tt h)) (λ b w h. refl) (λ b w h. refl) (λ l r w h. refl) (λ s y b h. refl) (λ o l r h. refl)
-    (λ a l h. refl) (λ b l h. absurd (miss asked-kinds 9 tt h)) (λ s h. refl) (λ y h. refl) (λ y h. refl) (λ m e h. refl)
+    (λ a l h. refl) (λ b l h. absurd (miss asked-kinds 6 tt h)) (λ s h. refl) (λ y h. refl) (λ y h. refl) (λ m e h. refl)
 
 abbrev unasked-kinds : List ℕ
-unasked-kinds = 2 ∷ 9 ∷ []
+unasked-kinds = 2 ∷ 6 ∷ []
 
-pub first-unasked : (ties : Set) (t : ℕ → Tree) (n : NodeNo) (m : Node) → OneOf unasked-kinds (tagOf the-type m) → place-below 0 (as-condition (planted t n m)) ties .asked ≡ false
-unfolding demand-below place-below
-first-unasked ties t n =
-    condition-cases t n (λ m z. OneOf unasked-kinds (tagOf the-type m) → place-below 0 z ties .asked ≡ false)
-    (λ l r h. absurd (miss unasked-kinds 0 tt h)) (λ l r h. absurd (miss unasked-kinds 1 tt h)) (λ b h. refl) (λ b w h. absurd (miss unasked-kinds 3 tt h))
-    (λ b w h. absurd (miss unasked-kinds 4 tt h)) (λ l r w h. absurd (miss unasked-kinds 5 tt h)) (λ s y b h. absurd (miss unasked-kinds 6 tt h))
-    (λ o l r h. absurd (miss unasked-kinds 7 tt h)) (λ a l h. absurd (miss unasked-kinds 8 tt h)) (λ b l h. refl) (λ s h. absurd (miss unasked-kinds 10 tt h))
-    (λ y h. absurd (miss unasked-kinds 11 tt h)) (λ y h. absurd (miss unasked-kinds 12 tt h)) (λ m e h. absurd (no-other unasked-kinds condition-kinds _ refl h e))
+unasked : (columns : List ℕ) (i : ℕ) (s : Owing) → OwingArm columns i s → OneOf unasked-kinds (tagOf owing-type s) → FirstAsked (condition-of columns i) false
+unfolding planted as-condition demand-below place-below
+unasked columns i Other a h ties = absurd (miss unasked-kinds 0 tt h)
+unasked columns i (And l) a h ties = absurd (miss unasked-kinds 1 tt h)
+unasked columns i (Not b) a h ties = sym (at-place ties (λ (p : Place). p .asked) 0 a)
+unasked columns i (Since l r) a h ties = absurd (miss unasked-kinds 3 tt h)
+unasked columns i (Exists s) a h ties = absurd (miss unasked-kinds 4 tt h)
+unasked columns i (Comparison o l r) a h ties = absurd (miss unasked-kinds 5 tt h)
+unasked columns i Refine a h ties = sym (at-place ties (λ (p : Place). p .asked) 0 (a .2))
 
-module _ (ties : Set) {columns : List ℕ} {i : ℕ} {m : Node} (a : Arm columns i m) where
-  pub first-same : OneOf same-first-kinds (tagOf the-type m) → ties ≡ place-below 0 (condition-of columns i) ties .names
-  first-same h = sym (at-place ties (λ (p : Place). p .names) 0 a ∙ same-first ties _ _ _ h)
+-- by what is seen of the node
+module _ {columns : List ℕ} {i : ℕ} {m : Node} where
+  pub operand-none : (ties : Set) {s : Operand} → s ≡ seen-operand m → Arm columns i m → OneOf no-body-kinds (tagOf operand-type s)
+      → demanded true (operand (term-of columns i)) ties ≡ []
+  operand-none ties e a h = in-operand ties a ∙ no-body ties _ _ _ (subst (λ (s : Operand). OneOf no-body-kinds (tagOf operand-type s)) e h)
 
-  pub second-same : OneOf same-second-kinds (tagOf the-type m) → ties ≡ place-below 1 (condition-of columns i) ties .names
-  second-same h = sym (at-place ties (λ (p : Place). p .names) 1 a ∙ same-second ties _ _ _ h)
+  module _ {s : Owing} (e : s ≡ seen-owing m) (a : Arm columns i m) where
+    among : (ks : List ℕ) → OneOf ks (tagOf owing-type s) → OneOf ks (tagOf owing-type (seen-owing m))
+    among ks h = subst (λ (s : Owing). OneOf ks (tagOf owing-type s)) e h
+
+    pub owed-none : (ties : Set) → OneOf no-demand-kinds (tagOf owing-type s) → owed (condition-of columns i) ties ≡ []
+    owed-none ties h = in-owed ties a ∙ no-demand ties _ _ _ (among no-demand-kinds h)
+
+    pub first-same : (ties : Set) → OneOf same-first-kinds (tagOf owing-type s) → ties ≡ place-below 0 (condition-of columns i) ties .names
+    first-same ties h = sym (at-place ties (λ (p : Place). p .names) 0 a ∙ same-first ties _ _ _ (among same-first-kinds h))
+
+    pub second-same : (ties : Set) → OneOf same-second-kinds (tagOf owing-type s) → ties ≡ place-below 1 (condition-of columns i) ties .names
+    second-same ties h = sym (at-place ties (λ (p : Place). p .names) 1 a ∙ same-second ties _ _ _ (among same-second-kinds h))
+
+    pub first-asked : OneOf asked-kinds (tagOf owing-type s) → FirstAsked (condition-of columns i) true
+    first-asked h ties = sym (at-place ties (λ (p : Place). p .asked) 0 a ∙ asked ties _ _ _ (among asked-kinds h))
+
+    pub first-unasked : OneOf unasked-kinds (tagOf owing-type s) → FirstAsked (condition-of columns i) false
+    first-unasked h = unasked columns i s (owing-told e a) h

@@ -6,11 +6,10 @@ use Prim.Native.Nat.{ℕ}
 use lib.ListN.{getD}
 use Rattle.paper.specs.declared.NodeNo.{NodeNo}
 use Rattle.paper.specs.declared.Finding.{Finding}
-use Rattle.paper.specs.declared.Node.{Node}
 use Rattle.paper.specs.declared.Tied.{Tied}
 use Rattle.paper.specs.declared.Tied.the-variants.{Left, Right, Neither}
 use Rattle.paper.specs.Sets.{Set, _∪_, _∖_}
-use Rattle.paper.specs.Tree.{Condition, Tree, as-condition, planted}
+use Rattle.paper.specs.Tree.{Condition}
 use Rattle.paper.specs.Places.{Spot, Place, condition, asked-at, for-names, gather, findings, found}
 use Rattle.paper.specs.Demands.{demand-below, demand-broken}
 
@@ -18,9 +17,9 @@ use Rattle.paper.specs.Demands.{demand-below, demand-broken}
 unfoldable pub place-below : ℕ → Condition → Set → Place
 place-below k c tied = getD (demand-below (asked-at (condition c) tied)) k (asked-at (condition c) tied)
 
--- whether the first place below a condition is asked is said by the node that the condition is planted from, whatever lies below and whatever is tied
-abbrev pub FirstAsked : Node → Bool → Type 0
-FirstAsked m asked = (before : ℕ → Tree) (n : NodeNo) (tied : Set) → asked ≡ place-below 0 (as-condition (planted before n m)) tied .asked
+-- whether the first place below a condition is asked, whatever is tied
+abbrev pub FirstAsked : Condition → Bool → Type 0
+FirstAsked c asked = (tied : Set) → asked ≡ place-below 0 c tied .asked
 
 -- whether the place is asked, what stands there, and what is tied
 unfoldable pub demanded : Bool → Spot → Set → List Finding

@@ -1,6 +1,5 @@
 // What a condition itself owes: its entries of 30 to 32, and what is tied and asked at the places below it.
 use names::Names;
-use paper::Node;
 use paper::NodeNo;
 use paper::Tied;
 use rows::read::collect_free;
@@ -8,16 +7,16 @@ use rows::read::collect_range_restricted;
 use rows::read::collect_term_var;
 use slots::without_slot;
 use vars::eq_restricted_var;
+use views::Owing;
+use views::owing_at;
 use writes::emit;
 ghost use mathlib.Core.Path.{_≡_};
 ghost use mathlib.Core.List.{[]};
-ghost use lib.ListN.{getD};
-ghost use Rattle.paper.specs.declared.Node.the-variants.{ListEnd};
 ghost use Rattle.paper.specs.Record.{pick};
 ghost use Rattle.paper.specs.Sets.{_∖_};
 ghost use Rattle.paper.specs.Places.{for-names, findings};
 ghost use Rattle.names.specs.Words.{mem};
-ghost use Rattle.record.specs.Stored.{held, Has};
+ghost use Rattle.record.specs.Stored.{Has};
 ghost use Rattle.known.specs.Rows.{Noted};
 ghost use Rattle.trees.specs.Trees.{condition-of};
 ghost use Rattle.writes.specs.Written.{Room, Wrote};
@@ -68,28 +67,26 @@ fn check_conjunct_demands(
     columns: &[u64; 513],
     rows: &[[u64; 7]],
     i: NodeNo,
-    node: Node,
     tied: Names,
     out: &mut [u32],
     at: usize,
 ) -> usize
     requires { ⌜ Has (now columns) (i .0) × Noted (now columns) (now rows) ⌝ }
-    requires { ⌜ node ≡ getD (held (now columns)) (i .0) ListEnd ⌝ }
     requires { ⌜ Room (owed (condition-of (now columns) (i .0)) (mem tied)) at ⌝ }
     ensures { λ r. ⌜ Wrote (owed (condition-of (now (columns .entry)) (i .0)) (mem tied)) at r (now (out .entry)) (now (out .exit)) ⌝ }
 {
-    match node {
-        Node::Comparison(op, l, r) => {
+    match owing_at(columns, i) {
+        Owing::Comparison(op, l, r) => {
             let side = eq_restricted_var(columns, op, l, r);
             let left = collect_term_var(columns, rows, l);
             let right = collect_term_var(columns, rows, r);
             check_comparison_demands(i, side, left, right, tied, out, at)
         }
-        Node::Not(b) => {
+        Owing::Not(b) => {
             let needs = collect_free(columns, rows, b);
             reject_unmet_var(i, 31, needs, tied, out, at)
         }
-        Node::Since(l, r, _) => {
+        Owing::Since(l, r) => {
             let needs = collect_free(columns, rows, l);
             let anchored = collect_range_restricted(columns, rows, r);
             let known = names::union(tied, anchored);
@@ -104,59 +101,43 @@ pub fn check_own_demands(
     columns: &[u64; 513],
     rows: &[[u64; 7]],
     i: NodeNo,
-    node: Node,
     tied: Names,
     asked: bool,
     out: &mut [u32],
     at: usize,
 ) -> usize
     requires { ⌜ Has (now columns) (i .0) × Noted (now columns) (now rows) ⌝ }
-    requires { ⌜ node ≡ getD (held (now columns)) (i .0) ListEnd ⌝ }
     requires { ⌜ Room (pick asked (owed (condition-of (now columns) (i .0)) (mem tied)) []) at ⌝ }
     ensures { λ r. ⌜ Wrote (pick asked (owed (condition-of (now (columns .entry)) (i .0)) (mem tied)) []) at r (now (out .entry)) (now (out .exit)) ⌝ }
 {
     if asked {
-        return check_conjunct_demands(columns, rows, i, node, tied, out, at);
+        return check_conjunct_demands(columns, rows, i, tied, out, at);
     }
     at
 }
 
 // What is tied at the first part of a condition: on the left of Since also what the right restricts, below a binder not its name.
-pub fn tied_first(
-    columns: &[u64; 513],
-    rows: &[[u64; 7]],
-    i: NodeNo,
-    node: Node,
-    tied: Names,
-) -> Names
+pub fn tied_first(columns: &[u64; 513], rows: &[[u64; 7]], i: NodeNo, tied: Names) -> Names
     requires { ⌜ Has (now columns) (i .0) × Noted (now columns) (now rows) ⌝ }
-    requires { ⌜ node ≡ getD (held (now columns)) (i .0) ListEnd ⌝ }
     ensures { λ r. ⌜ mem r ≡ place-below 0 (condition-of (now (columns .entry)) (i .0)) (mem tied) .names ⌝ }
 {
-    match node {
-        Node::Since(_, r, _) => {
+    match owing_at(columns, i) {
+        Owing::Since(_, r) => {
             let given = collect_range_restricted(columns, rows, r);
             names::union(tied, given)
         }
-        Node::Exists(slot, _, _) => without_slot(tied, slot),
+        Owing::Exists(slot) => without_slot(tied, slot),
         _ => tied,
     }
 }
 
 // What is tied at the second part: on the right of And also what the left restricts.
-pub fn tied_second(
-    columns: &[u64; 513],
-    rows: &[[u64; 7]],
-    i: NodeNo,
-    node: Node,
-    tied: Names,
-) -> Names
+pub fn tied_second(columns: &[u64; 513], rows: &[[u64; 7]], i: NodeNo, tied: Names) -> Names
     requires { ⌜ Has (now columns) (i .0) × Noted (now columns) (now rows) ⌝ }
-    requires { ⌜ node ≡ getD (held (now columns)) (i .0) ListEnd ⌝ }
     ensures { λ r. ⌜ mem r ≡ place-below 1 (condition-of (now (columns .entry)) (i .0)) (mem tied) .names ⌝ }
 {
-    match node {
-        Node::And(l, _) => {
+    match owing_at(columns, i) {
+        Owing::And(l) => {
             let given = collect_range_restricted(columns, rows, l);
             names::union(tied, given)
         }
@@ -165,11 +146,12 @@ pub fn tied_second(
 }
 
 // Whether the first part of a condition is asked, which its kind says: not below Not, and not the base of a refinement.
-pub fn asked_first(node: Node) -> bool
-    ensures { λ r. ⌜ FirstAsked node r ⌝ }
+pub fn asked_first(columns: &[u64; 513], i: NodeNo) -> bool
+    requires { ⌜ Has (now columns) (i .0) ⌝ }
+    ensures { λ r. ⌜ FirstAsked (condition-of (now (columns .entry)) (i .0)) r ⌝ }
 {
-    match node {
-        Node::Not(_) | Node::Refine(_, _) => false,
+    match owing_at(columns, i) {
+        Owing::Not(_) | Owing::Refine => false,
         _ => true,
     }
 }

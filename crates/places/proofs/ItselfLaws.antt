@@ -1,10 +1,9 @@
 -- What `check_itself` finds at a node, and what `scope_first` says of it. Assumes nothing.
-use mathlib.Core.Path.{_≡_, refl, sym, ap, _∙_}
+use mathlib.Core.Path.{_≡_, refl, sym, ap, _∙_, subst}
 use mathlib.Core.List.{List, [], _∷_, _++_, append-nil}
 use Prim.Native.Nat.{ℕ}
 use types.Run.{OneOf, miss}
 use denote.Enum.Declared.{tagOf}
-use Rattle.paper.proofs.Node.{the-type}
 use Rattle.paper.specs.declared.NodeNo.{NodeNo}
 use Rattle.paper.specs.declared.Finding.{Finding}
 use Rattle.paper.specs.declared.Slot.{Slot}
@@ -20,21 +19,24 @@ use Rattle.trees.specs.Trees.{tree-of, condition-of}
 use Rattle.trees.proofs.Arms.{Arm}
 use Rattle.trees.proofs.Sorts.{at-arguments}
 use Rattle.trees.proofs.ByKind.{condition-cases}
+use Rattle.views.proofs.Itself.{the-type}
+use Rattle.views.specs.declared.Itself.{Itself}
+use Rattle.views.specs.declared.Itself.the-variants.{Other}
+use Rattle.views.specs.Seen.{seen-itself}
 use Rattle.places.specs.Nested.{nested, nested-arguments, nested-items, nested-in}
-use Rattle.places.specs.Itself.{in-arguments, at-itself, scope-first, ScopeFirst}
+use Rattle.places.specs.Itself.{in-arguments, at-itself, scope-first}
 use Rattle.places.proofs.NestedLaws.{no-argument-nested}
 
--- all but an exists, a predicate and a tp
-abbrev silent-kinds : List ℕ
-silent-kinds =
-    0 ∷ 1 ∷ 2 ∷ 3 ∷ 4 ∷ 5 ∷ 7 ∷ 9 ∷ 11 ∷ 12 ∷ 13 ∷ 14 ∷ 15 ∷ 16 ∷ 17 ∷ 18 ∷ 19 ∷ 20 ∷ 21 ∷ 22 ∷ 23 ∷ 24 ∷ 25 ∷ 26 ∷ 27 ∷ 28 ∷ []
+-- neither an exists nor a predicate nor a tp
+abbrev silent : List ℕ
+silent = 0 ∷ []
 
-silent : (words : Set) (t : ℕ → Tree) (n : NodeNo) (m : Node) → OneOf silent-kinds (tagOf the-type m) → at-itself words (as-condition (planted t n m)) ≡ []
-unfolding at-itself in-arguments scope-broken gather
-silent words t n =
-    condition-cases t n (λ m z. OneOf silent-kinds (tagOf the-type m) → at-itself words z ≡ [])
-    (λ l r h. refl) (λ l r h. refl) (λ b h. refl) (λ b w h. refl) (λ b w h. refl) (λ l r w h. refl) (λ s y b h. absurd (miss silent-kinds 6 tt h)) (λ o l r h. refl)
-    (λ a l h. absurd (miss silent-kinds 8 tt h)) (λ b l h. refl) (λ s h. absurd (miss silent-kinds 10 tt h)) (λ y h. refl) (λ y h. refl)
+none-here : (words : Set) (t : ℕ → Tree) (n : NodeNo) (m : Node) → OneOf silent (tagOf the-type (seen-itself m)) → at-itself words (as-condition (planted t n m)) ≡ []
+unfolding at-itself in-arguments scope-broken gather seen-itself
+none-here words t n =
+    condition-cases t n (λ m z. OneOf silent (tagOf the-type (seen-itself m)) → at-itself words z ≡ [])
+    (λ l r h. refl) (λ l r h. refl) (λ b h. refl) (λ b w h. refl) (λ b w h. refl) (λ l r w h. refl) (λ s y b h. absurd (miss silent 1 tt h)) (λ o l r h. refl)
+    (λ a l h. absurd (miss silent 2 tt h)) (λ b l h. refl) (λ s h. absurd (miss silent 3 tt h)) (λ y h. refl) (λ y h. refl)
     (λ m e h. no-argument-nested _)
 
 module _ (words : Set) {columns : List ℕ} {i : ℕ} where
@@ -56,30 +58,30 @@ module _ (words : Set) {columns : List ℕ} {i : ℕ} where
   unfolding planted as-condition at-itself in-arguments scope-broken gather
   itself-tp a = in-itself a ∙ append-nil _ ∙ append-nil _
 
-  pub itself-none : {m : Node} → Arm columns i m → OneOf silent-kinds (tagOf the-type m) → at-itself words (condition-of columns i) ≡ []
-  itself-none a h = in-itself a ∙ silent words _ _ _ h
+  pub itself-none : {m : Node} → Other ≡ seen-itself m → Arm columns i m → at-itself words (condition-of columns i) ≡ []
+  itself-none e a = in-itself a ∙ none-here words _ _ _ (ap (tagOf the-type) (sym e))
 
 -- ---- what is in scope below
 
-pub first-exists : (scope : Set) {inner : Set} {m : Node} {s : Slot} {y : ℕ} {b : NodeNo} → m ≡ node.Exists s y b → inner ≡ scope ∪ named s → ScopeFirst m scope inner
-unfolding planted as-condition scope-first scope-below
-first-exists scope e f before n = f ∙ ap (λ (z : Node). scope-first (as-condition (planted before n z)) scope) (sym e)
-
 -- all but an exists
-abbrev unbound-kinds : List ℕ
-unbound-kinds =
-    0 ∷ 1 ∷ 2 ∷ 3 ∷ 4 ∷ 5 ∷ 7 ∷ 8 ∷ 9 ∷ 10 ∷ 11 ∷ 12 ∷ 13 ∷ 14 ∷ 15 ∷ 16 ∷ 17 ∷ 18 ∷ 19 ∷ 20 ∷ 21 ∷ 22 ∷ 23 ∷ 24 ∷ 25 ∷ 26 ∷ 27 ∷ 28 ∷ []
+abbrev unbound : List ℕ
+unbound = 0 ∷ 2 ∷ 3 ∷ []
 
-same-scope : (scope : Set) (t : ℕ → Tree) (n : NodeNo) (m : Node) → OneOf unbound-kinds (tagOf the-type m) → scope-first (as-condition (planted t n m)) scope ≡ scope
-unfolding scope-first scope-below
+same-scope : (scope : Set) (t : ℕ → Tree) (n : NodeNo) (m : Node) → OneOf unbound (tagOf the-type (seen-itself m)) → scope-first (as-condition (planted t n m)) scope ≡ scope
+unfolding scope-first scope-below seen-itself
 same-scope scope t n =
-    condition-cases t n (λ m z. OneOf unbound-kinds (tagOf the-type m) → scope-first z scope ≡ scope)
-    (λ l r h. refl) (λ l r h. refl) (λ b h. refl) (λ b w h. refl) (λ b w h. refl) (λ l r w h. refl) (λ s y b h. absurd (miss unbound-kinds 6 tt h))
+    condition-cases t n (λ m z. OneOf unbound (tagOf the-type (seen-itself m)) → scope-first z scope ≡ scope)
+    (λ l r h. refl) (λ l r h. refl) (λ b h. refl) (λ b w h. refl) (λ b w h. refl) (λ l r w h. refl) (λ s y b h. absurd (miss unbound 1 tt h))
     (λ o l r h. refl) (λ a l h. refl) (λ b l h. refl) (λ s h. refl) (λ y h. refl) (λ y h. refl) (λ m e h. refl)
 
-pub first-same : (scope : Set) (m : Node) → OneOf unbound-kinds (tagOf the-type m) → ScopeFirst m scope scope
-first-same scope m h before n = sym (same-scope scope before n m h)
+module _ (scope : Set) {columns : List ℕ} {i : ℕ} where
+  in-scope : {m : Node} → Arm columns i m → scope-first (condition-of columns i) scope ≡ scope-first (as-condition (planted (tree-of columns) (node-no i) m)) scope
+  in-scope a = ap (λ (t : Tree). scope-first (as-condition t) scope) (a .tree)
 
-pub first-in-scope : (scope : Set) {columns : List ℕ} {i : ℕ} {inner : Set} {m : Node} → Arm columns i m → ScopeFirst m scope inner
-    → inner ≡ scope-first (condition-of columns i) scope
-first-in-scope scope a says = says _ _ ∙ sym (ap (λ (t : Tree). scope-first (as-condition t) scope) (a .tree))
+  pub first-exists : {inner : Set} {s : Slot} {y : ℕ} {b : NodeNo} → Arm columns i (node.Exists s y b) → inner ≡ scope ∪ named s
+      → inner ≡ scope-first (condition-of columns i) scope
+  unfolding planted as-condition scope-first scope-below
+  first-exists a f = f ∙ sym (in-scope a)
+
+  pub first-same : {m : Node} {s : Itself} → s ≡ seen-itself m → Arm columns i m → OneOf unbound (tagOf the-type s) → scope ≡ scope-first (condition-of columns i) scope
+  first-same e a h = sym (in-scope a ∙ same-scope scope _ _ _ (subst (λ (s : Itself). OneOf unbound (tagOf the-type s)) e h))

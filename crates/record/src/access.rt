@@ -1,13 +1,8 @@
 // A node and a name by their numbers.
 use crate::reader::read;
-use memory::PLACE_0;
-use memory::PLACE_1;
-use memory::PLACE_2;
-use memory::PLACE_3;
-use memory::PLACE_4;
-use nodes::kind_in;
+use memory::Numbers;
 use nodes::node_of;
-use nodes::number_in;
+use nodes::numbers_in;
 use paper::NameNo;
 use paper::Node;
 use paper::NodeNo;
@@ -17,6 +12,7 @@ ghost use mathlib.Core.Path.{_≡_};
 ghost use lib.ListN.{getD, take, drop};
 ghost use Rattle.paper.specs.declared.Node.the-variants.{ListEnd};
 ghost use Rattle.paper.specs.Questions.{name as name-asked};
+ghost use Rattle.memory.specs.Columns.{numbers-in};
 ghost use Rattle.record.specs.Stored.{held, Has};
 
 // A node's word. Of those that read, the one function that knows where a node lies.
@@ -27,18 +23,18 @@ pub fn word_at(columns: &[u64; 513], i: NodeNo) -> u64
     columns[i.0 as usize]
 }
 
+pub fn numbers_at(columns: &[u64; 513], i: NodeNo) -> Numbers
+    requires { ⌜ Has (now columns) (i .0) ⌝ }
+    ensures { λ r. ⌜ r ≡ numbers-in (getD (now (columns .entry)) (i .0) 0) ⌝ }
+{
+    numbers_in(word_at(columns, i))
+}
+
 pub fn node_at(columns: &[u64; 513], i: NodeNo) -> Node
     requires { ⌜ Has (now columns) (i .0) ⌝ }
     ensures { λ r. ⌜ r ≡ getD (held (now (columns .entry))) (i .0) ListEnd ⌝ }
 {
-    let word = word_at(columns, i);
-    let kind = kind_in(word);
-    let p0 = number_in(word, PLACE_0);
-    let p1 = number_in(word, PLACE_1);
-    let p2 = number_in(word, PLACE_2);
-    let p3 = number_in(word, PLACE_3);
-    let p4 = number_in(word, PLACE_4);
-    node_of(kind, p0, p1, p2, p3, p4)
+    node_of(numbers_at(columns, i))
 }
 
 // At most 24 bytes from a place on, as far as there are any.

@@ -5,7 +5,6 @@ use mathlib.Core.List.{List, [], _∷_, _++_, append-nil}
 use Prim.Native.Nat.{ℕ}
 use types.Run.{OneOf, miss}
 use denote.Enum.Declared.{tagOf}
-use Rattle.paper.proofs.Node.{the-type}
 use Rattle.paper.specs.declared.NodeNo.{NodeNo}
 use Rattle.paper.specs.declared.Finding.{Finding}
 use Rattle.paper.specs.declared.Slot.{Slot}
@@ -36,10 +35,13 @@ use Rattle.places.specs.Nested.{nested, nested-arguments, nested-items, nested-
 use Rattle.places.proofs.NestedLaws.{no-item-nested}
 use Rattle.cells.specs.Aggregates.{skips, five, five-of}
 use Rattle.places.specs.Itself.{in-arguments, at-itself, scope-first}
-use Rattle.parts.specs.declared.Below.{Below}
-use Rattle.parts.specs.declared.Below.the-variants as below
-use Rattle.parts.specs.Entered.{entered-below}
-use Rattle.parts.proofs.EnteredLaws.{entered-cases}
+use Rattle.views.specs.declared.Below.{Below}
+use Rattle.views.specs.declared.Below.the-variants as below
+use Rattle.views.proofs.Operand.{the-type}
+use Rattle.views.specs.declared.Operand.the-variants.{Plain}
+use Rattle.views.specs.Entered.{entered-below}
+use Rattle.views.specs.Seen.{seen-operand}
+use Rattle.views.proofs.EnteredLaws.{entered-cases}
 use Rattle.scoping.specs.Scoped.{scoped}
 
 then-one : (a b : List Finding) → a ++ (b ++ []) ≡ a ++ b
@@ -48,9 +50,9 @@ then-one a b = ap (λ (z : List Finding). a ++ z) (append-nil b)
 then-body : (a b : List Finding) → a ++ (b ++ []) ≡ (a ++ []) ++ b
 then-body a b = ap₂ {C = List Finding} _++_ (sym (append-nil a)) (append-nil b)
 
--- what is neither arithmetic nor an array nor an aggregate with a body
-abbrev unentered-kinds : List ℕ
-unentered-kinds = 0 ∷ 1 ∷ 2 ∷ 3 ∷ 4 ∷ 5 ∷ 6 ∷ 7 ∷ 8 ∷ 9 ∷ 10 ∷ 11 ∷ 12 ∷ 13 ∷ 14 ∷ 15 ∷ 16 ∷ 17 ∷ 18 ∷ 19 ∷ 24 ∷ 25 ∷ 26 ∷ 27 ∷ 28 ∷ []
+-- neither arithmetic nor an array nor an aggregate with a body
+abbrev plain : List ℕ
+plain = 0 ∷ []
 
 once : (a : List Finding) → (a ++ []) ++ [] ≡ a
 once a = append-nil (a ++ []) ∙ append-nil a
@@ -225,15 +227,15 @@ module _ (words scope : Set) where
 
   -- ---- the other kinds
 
-  no-operand : (t : ℕ → Tree) (n : NodeNo) (m : Node) → OneOf unentered-kinds (tagOf the-type m) → from (operand (as-term (planted t n m))) ≡ []
-  unfolding scope-below scope-broken gather scoped
+  no-operand : (t : ℕ → Tree) (n : NodeNo) (m : Node) → OneOf plain (tagOf the-type (seen-operand m)) → from (operand (as-term (planted t n m))) ≡ []
+  unfolding scope-below scope-broken gather scoped seen-operand
   no-operand t n =
-      term-cases t n (λ m z. OneOf unentered-kinds (tagOf the-type m) → from (operand z) ≡ [])
+      term-cases t n (λ m z. OneOf plain (tagOf the-type (seen-operand m)) → from (operand z) ≡ [])
       (λ x h. at (operand (Var n x))) (λ h. at (operand (Wildcard n))) (λ y h. at (operand (Value n 0x22 y))) (λ y h. at (operand (Value n 0x23 y)))
       (λ y h. at (operand (Value n 0x24 y))) (λ k h. at (operand (Sigil n 0x25 k))) (λ k h. at (operand (Sigil n 0x26 k)))
-      (λ l h. absurd (miss unentered-kinds 20 tt h)) (λ o l r h. absurd (miss unentered-kinds 21 tt h)) (λ s l b h. absurd (miss unentered-kinds 22 tt h))
-      (λ l b h. absurd (miss unentered-kinds 23 tt h)) (λ y h. at (operand (AggregateCall n y))) (λ m e h. at (operand (Value (node-no 0) 0 0)))
+      (λ l h. absurd (miss plain 1 tt h)) (λ o l r h. absurd (miss plain 2 tt h)) (λ s l b h. absurd (miss plain 3 tt h))
+      (λ l b h. absurd (miss plain 3 tt h)) (λ y h. at (operand (AggregateCall n y))) (λ m e h. at (operand (Value (node-no 0) 0 0)))
 
   module _ {columns : List ℕ} {i : ℕ} {m : Node} where
-    pub operand-none : Arm columns i m → OneOf unentered-kinds (tagOf the-type m) → from (operand (term-of columns i)) ≡ []
-    operand-none a h = in-operand a ∙ no-operand _ _ _ h
+    pub operand-none : Plain ≡ seen-operand m → Arm columns i m → from (operand (term-of columns i)) ≡ []
+    operand-none e a = in-operand a ∙ no-operand _ _ _ (ap (tagOf the-type) (sym e))

@@ -1,16 +1,16 @@
 // Scoping: 20 to 27.
 use aggregates::check_agg_expr;
 use names::Names;
-use paper::Node;
 use paper::NodeNo;
-use parts::Below;
-use parts::entered_below;
 use places::itself::check_itself;
 use places::itself::scope_first;
 use places::nested::reject_nested_agg;
-use record::access::node_at;
 use rows::read::is_sound;
 use slots::with_binders;
+use views::Below;
+use views::Operand;
+use views::below_at;
+use views::operand_at;
 ghost use mathlib.Core.Path.{_≡_};
 ghost use mathlib.Core.Bool.{true};
 ghost use Rattle.paper.specs.Places.{condition, operand};
@@ -38,13 +38,12 @@ pub fn check_condition(
     if is_sound(columns, rows, i, words, scope) {
         return at;
     }
-    let node = node_at(columns, i);
-    let p = check_itself(columns, rows, i, node, words, out, at);
-    let below = entered_below(node);
+    let p = check_itself(columns, rows, i, words, out, at);
+    let below = below_at(columns, i);
     match below {
         Below::Nothing => p,
         Below::Condition(b) => {
-            let inner = scope_first(node, scope);
+            let inner = scope_first(columns, i, scope);
             check_condition(columns, rows, b, inner, words, out, p)
         }
         Below::Conditions(l, r) => {
@@ -75,18 +74,18 @@ pub fn check_operand(
     if is_sound(columns, rows, i, words, scope) {
         return at;
     }
-    let node = node_at(columns, i);
-    match node {
-        Node::Arith(_, l, r) => {
+    let operand = operand_at(columns, i);
+    match operand {
+        Operand::Arith(l, r) => {
             let p = check_operand(columns, rows, l, scope, words, out, at);
             check_operand(columns, rows, r, scope, words, out, p)
         }
-        Node::Sum(_, binders, body) | Node::Count(binders, body) => {
+        Operand::Aggregate(binders, body) => {
             let p = check_agg_expr(columns, rows, i, scope, words, out, at);
             let inner = with_binders(columns, scope, binders);
             check_condition(columns, rows, body, inner, words, out, p)
         }
-        Node::Array(items) => reject_nested_agg(columns, items, out, at),
+        Operand::Array(items) => reject_nested_agg(columns, items, out, at),
         _ => at,
     }
 }

@@ -51,4 +51,4 @@ node-of-spec =
     (λ c. search arms)
     (λ c. search arms)
     (λ c. search arms)
-    (λ c. let a = c .before .args in last-arm _ (a .p0 ∷ a .p1 ∷ a .p2 ∷ a .p3 ∷ a .p4 ∷ []) (c .match .rest)))
+    (λ c. let a = c .before .args .n in last-arm _ (a .p0 ∷ a .p1 ∷ a .p2 ∷ a .p3 ∷ a .p4 ∷ []) (c .match .rest)))

@@ -1,5 +1,5 @@
 -- `asked_first` says whether the first place below a condition is asked.
-use mathlib.Core.Path.{sym}
+use Rattle.views.proofs.SeenLaws.{held-arm}
 use Rattle.owed.proofs.DemandLaws.{first-asked, first-unasked}
 use Rattle.owed.proofs.asked_first.Statement.{statement}
 use Rattle.owed.proofs.asked_first.Tie as tie
@@ -8,5 +8,6 @@ pub asked-first-spec : {M : Type 1} → statement M
 asked-first-spec =
     tie.close
     (tie.spec
-    (λ c before n tied. sym (first-unasked tied before n _ (c .match .keys1)))
-    (λ c before n tied. sym (first-asked tied before n _ (c .match .keys2))))
+    (λ c κs. c .pre)
+    (λ c. first-unasked (c .before .owing-at .ensures) (held-arm (c .before .before .pre)) (c .match .keys1))
+    (λ c. first-asked (c .before .owing-at .ensures) (held-arm (c .before .before .pre)) (c .match .keys2)))

@@ -1,54 +1,53 @@
 -- `check_conjunct_demands` writes a condition's own entries: a comparison's, 31 of Not, 32 of Since. What each arm writes stands first.
-use mathlib.Core.Path.{_≡_, refl, ap₂, _∙_}
+use mathlib.Core.Path.{_≡_, refl, sym, ap₂, _∙_}
 use denote.Ref.{now}
 use borrow.Author.Needs.{needs}
-use Rattle.paper.specs.declared.Node.{Node}
 use Rattle.paper.specs.Sets.{_∪_}
-use Rattle.trees.proofs.Arms.{Arm, arm}
 use Rattle.known.proofs.RowLaws.{body-row, term-row}
+use Rattle.views.specs.declared.Owing.{Owing}
+use Rattle.views.proofs.SeenLaws.{held-arm, OwingArm, owing-told}
 use Rattle.writes.proofs.WriteLaws.{wrote-none, wrote-is, room-is}
 use Rattle.owed.proofs.DemandLaws.{owed-comparison, owed-not, owed-since, owed-none}
 use Rattle.owed.proofs.check_conjunct_demands.Statement.{statement}
 use Rattle.owed.proofs.check_conjunct_demands.Tie as tie
 
-here : (c : tie.Start) {m : Node} → c .args .node ≡ m → Arm (now (c .args .columns)) (c .args .i .0) m
-here c p = arm _ _ _ _ (c .pre .0 .0) (c .pre .1 .0) p
+told : (c : tie.After-owing-at) {s : Owing} → c .owing-at .result ≡ s → OwingArm (now (c .before .before .args .columns)) (c .before .before .args .i .0) s
+told c p = owing-told (sym p ∙ c .owing-at .ensures) (held-arm (c .before .before .pre .0 .0))
 
 comparison-writes : tie.Need-returns
 comparison-writes c =
-    let a = here (c .before .before .before .before .before .before .before .before .before .before .before) (c .before .before .before .before .before .before .before .before .node .given .1) in
-    wrote-is (owed-comparison _ a (c .before .before .before .before .before .before .eq-restricted-var .ensures) (c .before .before .before .before .before .collect-term-var .ensures) (c .before .before .before .before .collect-term-var2 .ensures)) (c .before .before .check-comparison-demands .ensures)
+    wrote-is (owed-comparison _ (told (c .before .before .before .before .before .before .before .before .before .before) (c .before .before .before .before .before .before .before .before .op .given .1)) (c .before .before .before .before .before .before .eq-restricted-var .ensures) (c .before .before .before .before .before .collect-term-var .ensures) (c .before .before .before .before .collect-term-var2 .ensures)) (c .before .before .check-comparison-demands .ensures)
 
 not-writes : tie.Need-returns-2
 not-writes c =
-    wrote-is (owed-not _ (here (c .before .before .before .before .before .before .before .before .before) (c .before .before .before .before .before .before .node2 .given .1)) (c .before .before .before .before .collect-free .ensures)) (c .before .before .reject-unmet-var .ensures)
+    wrote-is (owed-not _ (told (c .before .before .before .before .before .before .before .before) (c .before .before .before .before .before .before .b .given .1)) (c .before .before .before .before .collect-free .ensures)) (c .before .before .reject-unmet-var .ensures)
 
 since-writes : tie.Need-returns-3
 since-writes c =
-    let known = c .before .before .before .before .union .ensures ∙ ap₂ _∪_ refl (c .before .before .before .before .before .collect-range-restricted .ensures) in
-    wrote-is (owed-since _ (here (c .before .before .before .before .before .before .before .before .before .before .before) (c .before .before .before .before .before .before .before .before .node3 .given .1)) (c .before .before .before .before .before .before .collect-free2 .ensures) known) (c .before .before .reject-unmet-var2 .ensures)
+    wrote-is (owed-since _ (told (c .before .before .before .before .before .before .before .before .before .before) (c .before .before .before .before .before .before .before .before .l .given .1) .1) (c .before .before .before .before .before .before .collect-free2 .ensures) (c .before .before .before .before .union .ensures ∙ ap₂ _∪_ refl (c .before .before .before .before .before .collect-range-restricted .ensures))) (c .before .before .reject-unmet-var2 .ensures)
 
 other-writes : tie.Need-returns-4
 other-writes c =
-    wrote-is (owed-none _ (here (c .before .before) refl) (c .match .keys4)) wrote-none
+    wrote-is (owed-none (c .before .owing-at .ensures) (held-arm (c .before .before .before .pre .0 .0)) _ (c .match .keys4)) wrote-none
 
 pub check-conjunct-demands-spec : {M : Type 1} → statement M
 check-conjunct-demands-spec =
     tie.close
     (tie.spec
+    (λ c κs. c .before .pre .0 .0)
     (λ c. search needs)
-    (λ c κs. let a = here (c .before .before .before .before) (c .before .node .given .1) in (a .children .0 .has, a .children .1 .0 .has))
-    (λ c κs. term-row (here (c .before .before .before .before .before) (c .before .before .node .given .1) .children .0) (c .before .before .before .before .before .pre .0 .1))
-    (λ c κs. term-row (here (c .before .before .before .before .before .before) (c .before .before .before .node .given .1) .children .1 .0) (c .before .before .before .before .before .before .pre .0 .1))
-    (λ c κs. room-is (owed-comparison _ (here (c .before .before .before .before .before .before .before .before) (c .before .before .before .before .before .node .given .1)) (c .before .before .before .eq-restricted-var .ensures) (c .before .before .collect-term-var .ensures) (c .before .collect-term-var2 .ensures)) (c .before .before .before .before .before .before .before .before .pre .1 .1))
+    (λ c κs. let a = told (c .before .before .before) (c .before .op .given .1) in (a .children .0 .has, a .children .1 .0 .has))
+    (λ c κs. term-row (told (c .before .before .before .before) (c .before .before .op .given .1) .children .0) (c .before .before .before .before .before .before .pre .0 .1))
+    (λ c κs. term-row (told (c .before .before .before .before .before) (c .before .before .before .op .given .1) .children .1 .0) (c .before .before .before .before .before .before .before .pre .0 .1))
+    (λ c κs. room-is (owed-comparison _ (told (c .before .before .before .before .before .before .before) (c .before .before .before .before .before .op .given .1)) (c .before .before .before .eq-restricted-var .ensures) (c .before .before .collect-term-var .ensures) (c .before .collect-term-var2 .ensures)) (c .before .before .before .before .before .before .before .before .before .pre .1))
     (λ c. search needs)
-    (λ c κs. body-row (here (c .before .before .before .before) (c .before .node2 .given .1) .children .0) (c .before .before .before .before .pre .0 .1))
-    (λ c κs. room-is (owed-not _ (here (c .before .before .before .before .before .before) (c .before .before .before .node2 .given .1)) (c .before .collect-free .ensures)) (c .before .before .before .before .before .before .pre .1 .1))
+    (λ c κs. body-row (told (c .before .before .before) (c .before .b .given .1) .children .0) (c .before .before .before .before .before .pre .0 .1))
+    (λ c κs. room-is (owed-not _ (told (c .before .before .before .before .before) (c .before .before .before .b .given .1)) (c .before .collect-free .ensures)) (c .before .before .before .before .before .before .before .pre .1))
     (λ c. search needs)
-    (λ c κs. body-row (here (c .before .before .before .before) (c .before .node3 .given .1) .children .0) (c .before .before .before .before .pre .0 .1))
-    (λ c κs. body-row (here (c .before .before .before .before .before) (c .before .before .node3 .given .1) .children .1 .0) (c .before .before .before .before .before .pre .0 .1))
+    (λ c κs. body-row (told (c .before .before .before) (c .before .l .given .1) .1 .children .0) (c .before .before .before .before .before .pre .0 .1))
+    (λ c κs. body-row (told (c .before .before .before .before) (c .before .before .l .given .1) .1 .children .1 .0) (c .before .before .before .before .before .before .pre .0 .1))
     (λ c κs. search needs)
-    (λ c κs. room-is (owed-since _ (here (c .before .before .before .before .before .before .before .before) (c .before .before .before .before .before .node3 .given .1)) (c .before .before .before .collect-free2 .ensures) (c .before .union .ensures ∙ ap₂ _∪_ refl (c .before .before .collect-range-restricted .ensures))) (c .before .before .before .before .before .before .before .before .pre .1 .1))
+    (λ c κs. room-is (owed-since _ (told (c .before .before .before .before .before .before .before) (c .before .before .before .before .before .l .given .1) .1) (c .before .before .before .collect-free2 .ensures) (c .before .union .ensures ∙ ap₂ _∪_ refl (c .before .before .collect-range-restricted .ensures))) (c .before .before .before .before .before .before .before .before .before .pre .1))
     (λ c. search needs)
     comparison-writes
     (λ c. search needs)

@@ -25,7 +25,7 @@ pub check-own-demands-spec : {M : Type 1} → statement M
 check-own-demands-spec =
     tie.close
     (tie.spec
-    (λ c κs. let s = c .before .before .before .pre in (s .0, (s .1 .0, room-is (picked _ (c .before .if1 .taken)) (s .1 .1))))
+    (λ c κs. let s = c .before .before .before .pre in (s .0, room-is (picked _ (c .before .if1 .taken)) (s .1)))
     (λ c. search needs)
     asked-writes
     unasked-writes)

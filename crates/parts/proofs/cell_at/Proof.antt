@@ -1,23 +1,8 @@
--- `cell_at` has the parts of a cell from its kind and the two bytes at each place. Assumes nothing.
-use native.Mathlib.Omega.{arith}
+-- `cell_at` asks of a node's numbers what is asked of the node. Assumes nothing.
 use Rattle.memory.proofs.ColumnLaws.{asked-of}
 use Rattle.known.specs.Known.{cell-of}
 use Rattle.parts.proofs.cell_at.Statement.{statement}
 use Rattle.parts.proofs.cell_at.Tie as tie
 
 pub cell-at-spec : {M : Type 1} → statement M
-cell-at-spec =
-    tie.close
-    (tie.spec
-    (λ c κs. c .pre)
-    (λ c κs. tt)
-    (λ c κs. omega arith)
-    (λ c κs. omega arith)
-    (λ c κs. omega arith)
-    (λ c κs. omega arith)
-    (λ c κs. omega arith)
-    (λ c κs. tt)
-    (λ c. let p0 = c .before .before .before .before .before in
-    let word = p0 .before .before in
-    asked-of cell-of _ _ _ _ _ _ _ _ _ (word .before .pre .1) (word .word-at .ensures) (p0 .before .kind-in .ensures) (p0 .number-in .ensures) (c .before .before .before .before .number-in2 .ensures)
-    (c .before .before .before .number-in3 .ensures) (c .before .before .number-in4 .ensures) (c .before .number-in5 .ensures) (c .cell-in .ensures)))
+cell-at-spec = tie.close (tie.spec (λ c κs. c .pre) (λ c κs. tt) (λ c. asked-of cell-of _ _ _ (c .before .before .pre .1) (c .before .numbers-at .ensures) (c .cell-in .ensures)))

@@ -1,23 +1,8 @@
--- `parts_at` has the parts of a node from its kind and the two bytes at each place. Assumes nothing.
-use native.Mathlib.Omega.{arith}
+-- `parts_at` asks of a node's numbers what is asked of the node. Assumes nothing.
 use Rattle.memory.proofs.ColumnLaws.{asked-of}
 use Rattle.known.specs.Known.{parts-of}
 use Rattle.parts.proofs.parts_at.Statement.{statement}
 use Rattle.parts.proofs.parts_at.Tie as tie
 
 pub parts-at-spec : {M : Type 1} → statement M
-parts-at-spec =
-    tie.close
-    (tie.spec
-    (λ c κs. c .pre)
-    (λ c κs. tt)
-    (λ c κs. omega arith)
-    (λ c κs. omega arith)
-    (λ c κs. omega arith)
-    (λ c κs. omega arith)
-    (λ c κs. omega arith)
-    (λ c κs. tt)
-    (λ c. let p0 = c .before .before .before .before .before in
-    let word = p0 .before .before in
-    asked-of parts-of _ _ _ _ _ _ _ _ _ (word .before .pre .1) (word .word-at .ensures) (p0 .before .kind-in .ensures) (p0 .number-in .ensures) (c .before .before .before .before .number-in2 .ensures)
-    (c .before .before .before .number-in3 .ensures) (c .before .before .number-in4 .ensures) (c .before .number-in5 .ensures) (c .parts-in .ensures)))
+parts-at-spec = tie.close (tie.spec (λ c κs. c .pre) (λ c κs. tt) (λ c. asked-of parts-of _ _ _ (c .before .before .pre .1) (c .before .numbers-at .ensures) (c .parts-in .ensures)))

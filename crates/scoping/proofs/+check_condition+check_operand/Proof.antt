@@ -1,27 +1,27 @@
--- `check_condition` and `check_operand` write the entries of 20 to 27. The measure is the node's number. For each function: the shapes that its arms take
--- together, then its needs in the order of the code, first what the calls ask and then what each arm returns.
+-- `check_condition` and `check_operand` write the entries of 20 to 27. The measure is the node's number. For each function: what is known of its node by what is
+-- seen of it, then its needs in the order of the code, first what the calls ask and then what each arm returns.
 use mathlib.Core.Path.{_≡_, refl, sym, _∙_}
 use mathlib.Core.Bool.{false}
-use mathlib.Core.Logic.{⊎-elim}
 use denote.Ref.{now}
-use native.Mathlib.Omega.{arith}
+use lib.ListN.{getD}
 use native.Mathlib.Nat.{le-refl}
 use borrow.Author.Needs.{needs}
-use Rattle.paper.specs.declared.Node.{Node}
-use Rattle.paper.specs.declared.Node.the-variants as node
-use Rattle.trees.proofs.Arms.{Arm, arm}
+use Rattle.paper.specs.declared.Node.the-variants.{ListEnd}
+use Rattle.record.specs.Stored.{held}
+use Rattle.trees.proofs.Arms.{Arm}
 use Rattle.names.specs.Words.{mem}
 use Rattle.names.proofs.ApartLaws.{empty-everywhere}
 use Rattle.trees.specs.Trees.{term-of}
 use Rattle.known.proofs.RowLaws.{under-body, under-term, body-had, term-had}
 use Rattle.known.specs.Needs.{has-none}
 use Rattle.cells.specs.Aggregates.{skips}
-use Rattle.trees.proofs.Shapes.{Aggregate, sum, count, of-aggregate, met₂}
-use Rattle.parts.specs.declared.Below.{Below}
-use Rattle.parts.specs.Entered.{entered-below}
-use Rattle.parts.proofs.EnteredLaws.{entered}
+use Rattle.trees.proofs.Shapes.{of-aggregate}
+use Rattle.views.specs.declared.Below.{Below}
+use Rattle.views.specs.declared.Operand.{Operand}
+use Rattle.views.specs.Entered.{entered-below}
+use Rattle.views.proofs.EnteredLaws.{entered}
+use Rattle.views.proofs.SeenLaws.{held-arm, OperandArm, operand-told}
 use Rattle.writes.proofs.WriteLaws.{wrote-none, wrote-then, wrote-is, room-is, room-first, room-rest}
-use Rattle.places.proofs.ItselfLaws.{first-in-scope}
 use Rattle.scoping.proofs.ScopingLaws.{sound-scoped, sound-operand-scoped, not-skipped, scoped-entered, scoped-arith, scoped-array, scoped-aggregate, operand-none}
 use Prim.Native.Nat.{ℕ, _<_}
 use borrow.Fn.Kinds.{In}
@@ -34,11 +34,11 @@ use Rattle.scoping.proofs.check_operand.Kinds as check-operand-kinds
 use Rattle.scoping.proofs.+check_condition+check_operand.Lts-check_operand as check-operand-lts
 use Rattle.slots.proofs.with_binders.Reads as with-binders-reads
 use Rattle.aggregates.proofs.check_agg_expr.Reads as check-agg-expr-reads
-use Rattle.parts.proofs.entered_below.Reads as entered-below-reads
+use Rattle.views.proofs.below_at.Reads as below-at-reads
+use Rattle.views.proofs.operand_at.Reads as operand-at-reads
 use Rattle.places.proofs.itself.check_itself.Reads as check-itself-reads
 use Rattle.places.proofs.itself.scope_first.Reads as scope-first-reads
 use Rattle.places.proofs.nested.reject_nested_agg.Reads as reject-nested-agg-reads
-use Rattle.record.proofs.access.node_at.Reads as node-at-reads
 use Rattle.rows.proofs.read.is_sound.Reads as is-sound-reads
 use Rattle.scoping.proofs.+check_condition+check_operand.{statement}
 use Rattle.scoping.proofs.+check_condition+check_operand.Tie.{close}
@@ -65,12 +65,10 @@ abbrev condition-claims : ℕ → check-condition-lts.Claims
 condition-claims t = (
   is-sound-reads.Asked,
   is-sound-reads.Learnt,
-  node-at-reads.Asked,
-  node-at-reads.Learnt,
   check-itself-reads.Asked,
   check-itself-reads.Learnt,
-  entered-below-reads.Asked,
-  entered-below-reads.Learnt,
+  below-at-reads.Asked,
+  below-at-reads.Learnt,
   scope-first-reads.Asked,
   scope-first-reads.Learnt,
   condition-below t,
@@ -83,42 +81,31 @@ abbrev operand-claims : ℕ → check-operand-lts.Claims
 operand-claims t = (
   is-sound-reads.Asked,
   is-sound-reads.Learnt,
-  node-at-reads.Asked,
-  node-at-reads.Learnt,
+  operand-at-reads.Asked,
+  operand-at-reads.Learnt,
   operand-below t,
   check-operand.Post,
-  reject-nested-agg-reads.Asked,
-  reject-nested-agg-reads.Learnt,
   check-agg-expr-reads.Asked,
   check-agg-expr-reads.Learnt,
   with-binders-reads.Asked,
   with-binders-reads.Learnt,
   condition-below t,
   check-condition.Post,
+  reject-nested-agg-reads.Asked,
+  reject-nested-agg-reads.Learnt,
 )
 
-condition-arm : (t : ℕ) (c : check-condition-lts.After-node-at (condition-claims t) (condition-at t) check-condition.Post) {m : Node} → c .node-at .result ≡ m
-    → Arm (now (c .before .before .before .before .args .columns)) (c .before .before .before .before .args .i .0) m
-condition-arm t c p = arm _ _ _ _ (c .before .before .before .before .pre .1 .0 .0) (c .node-at .ensures) p
-
-operand-arm : (t : ℕ) (c : check-operand-lts.After-node-at (operand-claims t) (operand-at t) check-operand.Post) {m : Node} → c .node-at .result ≡ m
-    → Arm (now (c .before .before .before .before .args .columns)) (c .before .before .before .before .args .i .0) m
-operand-arm t c p = arm _ _ _ _ (c .before .before .before .before .pre .1 .0 .0) (c .node-at .ensures) p
-
 -- where the walk goes on: the node, and what it is said to be
-module _ (t : ℕ) (c : check-condition-lts.After-entered-below (condition-claims t) (condition-at t) check-condition.Post) where
-  here : let s = c .before .before .before .before .before .before .before .before .before .args in Arm (now (s .columns)) (s .i .0) (c .before .before .before .before .before .node-at .result)
-  here = condition-arm t (c .before .before .before .before .before) refl
+module _ (t : ℕ) (c : check-condition-lts.After-below-at (condition-claims t) (condition-at t) check-condition.Post) where
+  here : let s = c .before .before .before .before .before .before .before .before .args in Arm (now (s .columns)) (s .i .0) (getD (held (now (s .columns))) (s .i .0) ListEnd)
+  here = held-arm (c .before .before .before .before .before .before .before .before .pre .1 .0 .0)
 
-  told : {s : Below} → c .entered-below .result ≡ s → s ≡ entered-below (c .before .before .before .before .before .node-at .result)
-  told p = sym p ∙ c .entered-below .ensures
+  told : {s : Below} → c .below-at .result ≡ s → let a = c .before .before .before .before .before .before .before .before .args in s ≡ entered-below (getD (held (now (a .columns))) (a .i .0) ListEnd)
+  told p = sym p ∙ c .below-at .ensures
 
-gathers : (t : ℕ) (c : check-operand-lts.At-match-came (operand-claims t) (operand-at t) check-operand.Post)
-    → Aggregate (c .match .binders) (c .match .body) (c .before .node-at .result)
-gathers t c =
-    ⊎-elim (λ w. met₂ Aggregate (node.Sum (w .1 .given .0 .0)) (λ l b. sum) (w .1 .given .1) (w .3) (w .4))
-    (λ w. met₂ Aggregate node.Count (λ l b. count) (w .1 .given .1) (w .3) (w .4))
-    (c .match .came)
+seen : (t : ℕ) (c : check-operand-lts.After-operand-at (operand-claims t) (operand-at t) check-operand.Post) {s : Operand} → c .operand-at .result ≡ s
+    → let a = c .before .before .before .before .args in OperandArm (now (a .columns)) (a .i .0) s
+seen t c p = operand-told (sym p ∙ c .operand-at .ensures) (held-arm (c .before .before .before .before .pre .1 .0 .0))
 
 nothing-writes : (t : ℕ) → check-condition-lts.Need-returns-2 (condition-claims t) (condition-at t) check-condition.Post
 nothing-writes t c =
@@ -126,17 +113,19 @@ nothing-writes t c =
 
 condition-writes : (t : ℕ) → check-condition-lts.Need-returns-3 (condition-claims t) (condition-at t) check-condition.Post
 condition-writes t c =
-    wrote-is (scoped-entered _ _ (here t (c .before .before .before .before .before .before .before .before)) (told t (c .before .before .before .before .before .before .before .before) (c .before .before .before .before .before .before .below .given .1)) (first-in-scope _ (here t (c .before .before .before .before .before .before .before .before)) (c .before .before .before .before .scope-first .ensures)))
-    (wrote-then (c .before .before .before .before .before .before .before .before .before .before .before .check-itself .ensures) (c .before .before .check-condition .ensures))
+    let b = c .before .before .before .before .before .before .before .before in
+    wrote-is (scoped-entered _ _ (here t b) (told t b (c .before .before .before .before .before .before .below .given .1)) (c .before .before .before .before .scope-first .ensures)) (wrote-then (c .before .before .before .before .before .before .before .before .before .before .before .check-itself .ensures) (c .before .before .check-condition .ensures))
 
 conditions-writes : (t : ℕ) → check-condition-lts.Need-returns-4 (condition-claims t) (condition-at t) check-condition.Post
 conditions-writes t c =
-    wrote-is (scoped-entered _ _ (here t (c .before .before .before .before .before .before .before .before .before .before .before)) (told t (c .before .before .before .before .before .before .before .before .before .before .before) (c .before .before .before .before .before .before .before .before .before .below2 .given .1)) refl)
+    let b = c .before .before .before .before .before .before .before .before .before .before .before in
+    wrote-is (scoped-entered _ _ (here t b) (told t b (c .before .before .before .before .before .before .before .before .before .below2 .given .1)) refl)
     (wrote-then (c .before .before .before .before .before .before .before .before .before .before .before .before .before .before .check-itself .ensures) (wrote-then (c .before .before .before .before .before .before .check-condition2 .ensures) (c .before .before .check-condition3 .ensures)))
 
 operands-writes : (t : ℕ) → check-condition-lts.Need-returns-5 (condition-claims t) (condition-at t) check-condition.Post
 operands-writes t c =
-    wrote-is (scoped-entered _ _ (here t (c .before .before .before .before .before .before .before .before .before .before .before)) (told t (c .before .before .before .before .before .before .before .before .before .before .before) (c .before .before .before .before .before .before .before .before .before .below3 .given .1)) refl)
+    let b = c .before .before .before .before .before .before .before .before .before .before .before in
+    wrote-is (scoped-entered _ _ (here t b) (told t b (c .before .before .before .before .before .before .before .before .before .below3 .given .1)) refl)
     (wrote-then (c .before .before .before .before .before .before .before .before .before .before .before .before .before .before .check-itself .ensures) (wrote-then (c .before .before .before .before .before .before .check-operand .ensures) (c .before .before .check-operand2 .ensures)))
 
 -- nothing is entered
@@ -146,37 +135,36 @@ sound-writes t c =
     let s = c .before .before .before in
     wrote-is (sound-scoped _ (λ k e. empty-everywhere (s .args .words) (search needs) e k) _ _ (s .pre .1 .0 .2) (sym (c .before .is-sound .ensures) ∙ c .if1 .taken)) wrote-none
 
-operand-returns : (t : ℕ) → check-operand-lts.Need-returns (operand-claims t) (operand-at t) check-operand.Post
+sound-operand-writes : (t : ℕ) → check-operand-lts.Need-returns (operand-claims t) (operand-at t) check-operand.Post
 unfolding has-none
-operand-returns t c =
+sound-operand-writes t c =
     let s = c .before .before .before in
     wrote-is (sound-operand-scoped _ (λ k e. empty-everywhere (s .args .words) (search needs) e k) _ _ (s .pre .1 .0 .2) (sym (c .before .is-sound .ensures) ∙ c .if1 .taken)) wrote-none
 
 -- an aggregate that is entered
-enters : (t : ℕ) (c : check-operand-lts.After-node-at (operand-claims t) (operand-at t) check-operand.Post) → let s = c .before .before .before .before .args in skips (term-of (now (s .columns)) (s .i .0)) ≡ false
+enters : (t : ℕ) (c : check-operand-lts.After-operand-at (operand-claims t) (operand-at t) check-operand.Post) → let s = c .before .before .before .before .args in skips (term-of (now (s .columns)) (s .i .0)) ≡ false
 enters t c =
     let s = c .before .before .before .before in
     not-skipped _ (mem (s .args .words)) (mem (s .args .scope)) (s .pre .1 .0 .2) (sym (c .before .before .is-sound .ensures) ∙ c .before .if1 .left)
 
-operand-returns-2 : (t : ℕ) → check-operand-lts.Need-returns-2 (operand-claims t) (operand-at t) check-operand.Post
-operand-returns-2 t c =
-    wrote-is (scoped-arith _ _ (operand-arm t (c .before .before .before .before .before .before .before .before .before .before .before) (c .before .before .before .before .before .before .before .before .before .node .given .1))) (wrote-then (c .before .before .before .before .before .before .check-operand .ensures) (c .before .before .check-operand2 .ensures))
+arith-writes : (t : ℕ) → check-operand-lts.Need-returns-2 (operand-claims t) (operand-at t) check-operand.Post
+arith-writes t c =
+    wrote-is (scoped-arith _ _ (seen t (c .before .before .before .before .before .before .before .before .before .before .before) (c .before .before .before .before .before .before .before .before .before .operand .given .1) .1)) (wrote-then (c .before .before .before .before .before .before .check-operand .ensures) (c .before .before .check-operand2 .ensures))
 
-operand-returns-3 : (t : ℕ) → check-operand-lts.Need-returns-3 (operand-claims t) (operand-at t) check-operand.Post
-operand-returns-3 t c =
-    wrote-is (scoped-array _ _ (operand-arm t (c .before .before .before .before .before .before .before) (c .before .before .before .before .before .node4 .given .1)))
-    (c .before .before .reject-nested-agg .ensures)
+aggregate-writes : (t : ℕ) → check-operand-lts.Need-returns-3 (operand-claims t) (operand-at t) check-operand.Post
+aggregate-writes t c =
+    let b = c .before .before .before .before .before .before .before .before .before .before .before .before in
+    let g = seen t b (c .before .before .before .before .before .before .before .before .before .before .operand2 .given .1) in
+    wrote-is (scoped-aggregate _ _ (g .1) (c .before .before .before .before .with-binders .ensures) (g .2) (enters t b)) (wrote-then (c .before .before .before .before .before .before .before .check-agg-expr .ensures) (c .before .before .check-condition .ensures))
 
-operand-returns-4 : (t : ℕ) → check-operand-lts.Need-returns-4 (operand-claims t) (operand-at t) check-operand.Post
-operand-returns-4 t c =
-    wrote-is (operand-none _ _ (operand-arm t (c .before) refl) (c .match .keys5)) wrote-none
+array-writes : (t : ℕ) → check-operand-lts.Need-returns-4 (operand-claims t) (operand-at t) check-operand.Post
+array-writes t c =
+    wrote-is (scoped-array _ _ (seen t (c .before .before .before .before .before .before .before) (c .before .before .before .before .before .operand3 .given .1))) (c .before .before .reject-nested-agg .ensures)
 
-operand-returns-5 : (t : ℕ) → check-operand-lts.Need-returns-5 (operand-claims t) (operand-at t) check-operand.Post
-operand-returns-5 t c =
-    let agg = c .before .before .before .before .before .before .before in
-    let m = agg .before .before in
-    wrote-is (scoped-aggregate _ _ (gathers t m) (c .before .before .before .before .with-binders .ensures) (operand-arm t (m .before) refl) (enters t (m .before)))
-    (wrote-then (agg .check-agg-expr .ensures) (c .before .before .check-condition .ensures))
+plain-writes : (t : ℕ) → check-operand-lts.Need-returns-5 (operand-claims t) (operand-at t) check-operand.Post
+plain-writes t c =
+    let b = c .before .before in
+    wrote-is (operand-none _ _ (sym (c .enum-told .given .1) ∙ b .operand-at .ensures) (held-arm (c .before .before .before .before .before .before .pre .1 .0 .0))) wrote-none
 
 pub +check-condition+check-operand-spec : {M : Type 1} → statement M
 +check-condition+check-operand-spec =
@@ -184,19 +172,18 @@ pub +check-condition+check-operand-spec : {M : Type 1} → statement M
     (λ t. check-condition-lts.spec (condition-claims t) (condition-at t) check-condition.Post
     (λ c κs. let s = c .before .pre .1 .0 in (s .0 .1, s .1, body-had _ (s .2)))
     (sound-writes t)
-    (λ c κs. c .before .before .before .pre .1 .0 .0)
-    (λ c κs. let s = c .before .before .before .before .before .pre .1 in ((s .0 .0, s .0 .1), (c .before .node-at .ensures, room-first _ _ (room-is (scoped-entered _ _ (condition-arm t (c .before) refl) refl refl) (s .1)))))
-    (λ c κs. search needs)
+    (λ c κs. let s = c .before .before .before .before .pre .1 in ((s .0 .0, s .0 .1), room-first _ _ (room-is (scoped-entered _ _ (held-arm (s .0 .0)) refl refl) (s .1))))
+    (λ c κs. c .before .before .before .before .before .before .before .pre .1 .0 .0)
     (λ c. search needs)
     (λ c. search needs)
-    (λ c κs. here t (c .before .before .before) .tabled)
-    (λ c κs. let s = c .before .before .before .before .before .before .before .before .before .before .before .before .before .before in let d = under-body (entered (told t (c .before .before .before .before .before) (c .before .before .before .below .given .1)) (here t (c .before .before .before .before .before))) (s .pre .0) (s .pre .1 .0 .1) in (d .0, (d .1, room-rest _ _ (c .before .before .before .before .before .before .before .before .check-itself .ensures) (le-refl _) (room-is (scoped-entered _ _ (here t (c .before .before .before .before .before)) (told t (c .before .before .before .before .before) (c .before .before .before .below .given .1)) (first-in-scope _ (here t (c .before .before .before .before .before)) (c .before .scope-first .ensures))) (s .pre .1 .1)))))
+    (λ c κs. c .before .before .before .before .before .before .before .before .before .before .before .pre .1 .0 .0)
+    (λ c κs. let s = c .before .before .before .before .before .before .before .before .before .before .before .before .before in let b = c .before .before .before .before .before in let e = told t b (c .before .before .before .below .given .1) in let d = under-body (entered e (here t b)) (s .pre .0) (s .pre .1 .0 .1) in (d .0, (d .1, room-rest _ _ (c .before .before .before .before .before .before .before .before .check-itself .ensures) (le-refl _) (room-is (scoped-entered _ _ (here t b) e (c .before .scope-first .ensures)) (s .pre .1 .1)))))
     (λ c. search needs)
-    (λ c κs. let s = c .before .before .before .before .before .before .before .before .before .before .before .before .before in let d = under-body (entered (told t (c .before .before .before .before) (c .before .before .below2 .given .1)) (here t (c .before .before .before .before)) .0) (s .pre .0) (s .pre .1 .0 .1) in (d .0, (d .1, room-first _ _ (room-rest _ _ (c .before .before .before .before .before .before .before .check-itself .ensures) (le-refl _) (room-is (scoped-entered _ _ (here t (c .before .before .before .before)) (told t (c .before .before .before .before) (c .before .before .below2 .given .1)) refl) (s .pre .1 .1))))))
-    (λ c κs. let s = c .before .before .before .before .before .before .before .before .before .before .before .before .before .before .before .before .before in let d = under-body (entered (told t (c .before .before .before .before .before .before .before .before) (c .before .before .before .before .before .before .below2 .given .1)) (here t (c .before .before .before .before .before .before .before .before)) .1) (s .pre .0) (s .pre .1 .0 .1) in (d .0, (d .1, room-rest _ _ (c .before .before .before .check-condition2 .ensures) (le-refl _) (room-rest _ _ (c .before .before .before .before .before .before .before .before .before .before .before .check-itself .ensures) (le-refl _) (room-is (scoped-entered _ _ (here t (c .before .before .before .before .before .before .before .before)) (told t (c .before .before .before .before .before .before .before .before) (c .before .before .before .before .before .before .below2 .given .1)) refl) (s .pre .1 .1))))))
+    (λ c κs. let s = c .before .before .before .before .before .before .before .before .before .before .before .before in let b = c .before .before .before .before in let e = told t b (c .before .before .below2 .given .1) in let d = under-body (entered e (here t b) .0) (s .pre .0) (s .pre .1 .0 .1) in (d .0, (d .1, room-first _ _ (room-rest _ _ (c .before .before .before .before .before .before .before .check-itself .ensures) (le-refl _) (room-is (scoped-entered _ _ (here t b) e refl) (s .pre .1 .1))))))
+    (λ c κs. let s = c .before .before .before .before .before .before .before .before .before .before .before .before .before .before .before .before in let b = c .before .before .before .before .before .before .before .before in let e = told t b (c .before .before .before .before .before .before .below2 .given .1) in let d = under-body (entered e (here t b) .1) (s .pre .0) (s .pre .1 .0 .1) in (d .0, (d .1, room-rest _ _ (c .before .before .before .check-condition2 .ensures) (le-refl _) (room-rest _ _ (c .before .before .before .before .before .before .before .before .before .before .before .check-itself .ensures) (le-refl _) (room-is (scoped-entered _ _ (here t b) e refl) (s .pre .1 .1))))))
     (λ c. search needs)
-    (λ c κs. let s = c .before .before .before .before .before .before .before .before .before .before .before .before .before in let d = under-term (entered (told t (c .before .before .before .before) (c .before .before .below3 .given .1)) (here t (c .before .before .before .before)) .0) (s .pre .0) (s .pre .1 .0 .1) in (d .0, (d .1, room-first _ _ (room-rest _ _ (c .before .before .before .before .before .before .before .check-itself .ensures) (le-refl _) (room-is (scoped-entered _ _ (here t (c .before .before .before .before)) (told t (c .before .before .before .before) (c .before .before .below3 .given .1)) refl) (s .pre .1 .1))))))
-    (λ c κs. let s = c .before .before .before .before .before .before .before .before .before .before .before .before .before .before .before .before .before in let d = under-term (entered (told t (c .before .before .before .before .before .before .before .before) (c .before .before .before .before .before .before .below3 .given .1)) (here t (c .before .before .before .before .before .before .before .before)) .1) (s .pre .0) (s .pre .1 .0 .1) in (d .0, (d .1, room-rest _ _ (c .before .before .before .check-operand .ensures) (le-refl _) (room-rest _ _ (c .before .before .before .before .before .before .before .before .before .before .before .check-itself .ensures) (le-refl _) (room-is (scoped-entered _ _ (here t (c .before .before .before .before .before .before .before .before)) (told t (c .before .before .before .before .before .before .before .before) (c .before .before .before .before .before .before .below3 .given .1)) refl) (s .pre .1 .1))))))
+    (λ c κs. let s = c .before .before .before .before .before .before .before .before .before .before .before .before in let b = c .before .before .before .before in let e = told t b (c .before .before .below3 .given .1) in let d = under-term (entered e (here t b) .0) (s .pre .0) (s .pre .1 .0 .1) in (d .0, (d .1, room-first _ _ (room-rest _ _ (c .before .before .before .before .before .before .before .check-itself .ensures) (le-refl _) (room-is (scoped-entered _ _ (here t b) e refl) (s .pre .1 .1))))))
+    (λ c κs. let s = c .before .before .before .before .before .before .before .before .before .before .before .before .before .before .before .before in let b = c .before .before .before .before .before .before .before .before in let e = told t b (c .before .before .before .before .before .before .below3 .given .1) in let d = under-term (entered e (here t b) .1) (s .pre .0) (s .pre .1 .0 .1) in (d .0, (d .1, room-rest _ _ (c .before .before .before .check-operand .ensures) (le-refl _) (room-rest _ _ (c .before .before .before .before .before .before .before .before .before .before .before .check-itself .ensures) (le-refl _) (room-is (scoped-entered _ _ (here t b) e refl) (s .pre .1 .1))))))
     (λ c. search needs)
     (nothing-writes t)
     (λ c. search needs)
@@ -207,42 +194,22 @@ pub +check-condition+check-operand-spec : {M : Type 1} → statement M
     (operands-writes t))
     (λ t. check-operand-lts.spec (operand-claims t) (operand-at t) check-operand.Post
     (λ c κs. let s = c .before .pre .1 .0 in (s .0 .1, s .1, term-had _ (s .2)))
-    (operand-returns t)
+    (sound-operand-writes t)
     (λ c κs. c .before .before .before .pre .1 .0 .0)
     (λ c. search needs)
-    (λ c κs. let a = operand-arm t (c .before .before .before .before) (c .before .before .node .given .1) in let d = under-term (a .children .0) (c .before .before .before .before .before .before .before .before .pre .0) (c .before .before .before .before .before .before .before .before .pre .1 .0 .1) in (
-      d .0,
-      (
-        d .1,
-        room-first _ _ (room-is (scoped-arith _ _ a) (c .before .before .before .before .before .before .before .before .pre .1 .1)),
-      ),
-    ))
-    (λ c κs. let a = operand-arm t (c .before .before .before .before .before .before .before .before) (c .before .before .before .before .before .before .node .given .1) in let d = under-term (a .children .1 .0) (c .before .before .before .before .before .before .before .before .before .before .before .before .pre .0) (c .before .before .before .before .before .before .before .before .before .before .before .before .pre .1 .0 .1) in (
-      d .0,
-      (
-        d .1,
-        room-rest _ _ (c .before .before .before .check-operand .ensures) (omega (arith, c .before .before .before .check-operand .ensures .total)) (room-is
-            (scoped-arith _ _ a) (c .before .before .before .before .before .before .before .before .before .before .before .before .pre .1 .1)),
-      ),
-    ))
+    (λ c κs. let s = c .before .before .before .before .before .before .before .before in let a = seen t (c .before .before .before .before) (c .before .before .operand .given .1) .1 in let d = under-term (a .children .0) (s .pre .0) (s .pre .1 .0 .1) in (d .0, (d .1, room-first _ _ (room-is (scoped-arith _ _ a) (s .pre .1 .1)))))
+    (λ c κs. let s = c .before .before .before .before .before .before .before .before .before .before .before .before in let a = seen t (c .before .before .before .before .before .before .before .before) (c .before .before .before .before .before .before .operand .given .1) .1 in let d = under-term (a .children .1 .0) (s .pre .0) (s .pre .1 .0 .1) in (d .0, (d .1, room-rest _ _ (c .before .before .before .check-operand .ensures) (le-refl _) (room-is (scoped-arith _ _ a) (s .pre .1 .1)))))
+    (λ c. search needs)
+    (λ c κs. let s = c .before .before .before .before .before .before .before .before in let b = c .before .before .before .before in let g = seen t b (c .before .before .operand2 .given .1) in ((s .pre .1 .0 .0, s .pre .1 .0 .1), room-first _ _ (room-is (scoped-aggregate _ _ (g .1) refl (g .2) (enters t b)) (s .pre .1 .1))))
+    (λ c κs. let g = seen t (c .before .before .before .before .before .before .before) (c .before .before .before .before .before .operand2 .given .1) in of-aggregate (g .1) (g .2) .0 .has)
+    (λ c κs. let s = c .before .before .before .before .before .before .before .before .before .before .before .before .before in let b = c .before .before .before .before .before .before .before .before .before in let g = seen t b (c .before .before .before .before .before .before .before .operand2 .given .1) in let d = under-body (of-aggregate (g .1) (g .2) .1) (s .pre .0) (s .pre .1 .0 .1) in (d .0, (d .1, room-rest _ _ (c .before .before .before .before .check-agg-expr .ensures) (le-refl _) (room-is (scoped-aggregate _ _ (g .1) (c .before .with-binders .ensures) (g .2) (enters t b)) (s .pre .1 .1)))))
+    (λ c. search needs)
+    (λ c κs. let a = seen t (c .before .before .before .before) (c .before .before .operand3 .given .1) in (a .children .0 .has, room-is (scoped-array _ _ a) (c .before .before .before .before .before .before .before .before .pre .1 .1)))
     (λ c. search needs)
     (λ c. search needs)
+    (arith-writes t)
     (λ c. search needs)
-    (λ c κs. let a = operand-arm t (c .before .before .before .before) (c .before .before .node4 .given .1) in (
-      a .children .0 .has,
-      room-is (scoped-array _ _ a) (c .before .before .before .before .before .before .before .before .pre .1 .1),
-    ))
-    (λ c κs. let s = c .before .before .before .before .before .before in (
-      (s .pre .1 .0 .0, s .pre .1 .0 .1),
-      room-first _ _ (room-is (scoped-aggregate _ _ (gathers t (c .before)) refl (operand-arm t (c .before .before) refl) (enters t (c .before .before))) (s .pre .1 .1)),
-    ))
-    (λ c κs. of-aggregate (gathers t (c .before .before .before .before)) (operand-arm t (c .before .before .before .before .before) refl) .0 .has)
-    (λ c κs. let s = c .before .before .before .before .before .before .before .before .before .before .before in let m = c .before .before .before .before .before .before in let g = gathers t m in let a = operand-arm t (m .before) refl in let d = under-body (of-aggregate g a .1) (s .pre .0) (s .pre .1 .0 .1) in
-    (d .0, (d .1, room-rest _ _ (c .before .before .before .before .check-agg-expr .ensures) (le-refl _) (room-is (scoped-aggregate _ _ g (c .before .with-binders .ensures) a (enters t (m .before))) (s .pre .1 .1)))))
+    (aggregate-writes t)
     (λ c. search needs)
-    (operand-returns-2 t)
-    (λ c. search needs)
-    (operand-returns-3 t)
-    (operand-returns-4 t)
-    (λ c. search needs)
-    (operand-returns-5 t))
+    (array-writes t)
+    (plain-writes t))

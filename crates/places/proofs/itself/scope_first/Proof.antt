@@ -1,24 +1,23 @@
 -- `scope_first` gives what is in scope at the first place below a condition.
-use mathlib.Core.Path.{subst}
-use Prim.Native.Nat.{_<_}
+use mathlib.Core.Path.{_≡_, sym, _∙_}
+use denote.Ref.{now}
 use borrow.Author.Needs.{needs}
-use Rattle.paper.specs.declared.Node.{Node}
-use Rattle.paper.specs.Shape.{names-in}
-use Rattle.paper.proofs.Walks.{All}
 use Rattle.slots.proofs.SlotLaws.{slot-tabled}
+use Rattle.views.specs.declared.Itself.{Itself}
+use Rattle.views.proofs.SeenLaws.{held-arm, ItselfArm, itself-told}
 use Rattle.places.proofs.ItselfLaws.{first-exists, first-same}
 use Rattle.places.proofs.itself.scope_first.Statement.{statement}
 use Rattle.places.proofs.itself.scope_first.Tie as tie
 
-with-slot-requires : tie.Need-with-slot-requires
-with-slot-requires c κs =
-    slot-tabled (c .before .node .given .0 .0) (subst (λ (m : Node). All (λ x. x < 128) (names-in m)) (c .before .node .given .1) (c .before .before .before .pre))
+told : (c : tie.After-itself-at) {s : Itself} → c .itself-at .result ≡ s → ItselfArm (now (c .before .args .columns)) (c .before .args .i .0) s
+told c p = itself-told (sym p ∙ c .itself-at .ensures) (held-arm (c .before .pre))
 
 pub scope-first-spec : {M : Type 1} → statement M
 scope-first-spec =
     tie.close
     (tie.spec
+    (λ c κs. c .pre)
     (λ c. search needs)
-    with-slot-requires
-    (λ c. first-exists _ (c .before .before .node .given .1) (c .with-slot .ensures))
-    (λ c. first-same _ _ (c .match .keys2)))
+    (λ c κs. slot-tabled (c .before .slot .given .0 .0) (told (c .before .before .before) (c .before .slot .given .1) .1 .tabled))
+    (λ c. first-exists _ (told (c .before .before .before .before) (c .before .before .slot .given .1) .1) (c .with-slot .ensures))
+    (λ c. first-same _ (c .before .itself-at .ensures) (held-arm (c .before .before .pre)) (c .match .keys2)))

@@ -1,10 +1,7 @@
 -- What lies where a walk goes on below a condition. Assumes nothing.
-use mathlib.Core.Path.{_≡_, refl, sym, subst}
-use mathlib.Core.List.{List, [], _∷_}
+use mathlib.Core.Path.{_≡_, sym, subst}
+use mathlib.Core.List.{List}
 use Prim.Native.Nat.{ℕ}
-use types.Run.{OneOf, miss}
-use denote.Enum.Declared.{tagOf}
-use Rattle.paper.proofs.Node.{the-type}
 use Rattle.paper.specs.declared.NodeNo.{NodeNo}
 use Rattle.paper.specs.declared.Slot.{Slot}
 use Rattle.paper.specs.declared.Node.{Node}
@@ -14,24 +11,9 @@ use Rattle.paper.specs.Tree.{Condition as cond}
 use Rattle.paper.specs.Tree.Arguments.{no-argument}
 use Rattle.trees.proofs.Arms.{Arm, Child}
 use Rattle.trees.proofs.ByKind.{by-kind}
-use Rattle.parts.specs.declared.Below.{Below}
-use Rattle.parts.specs.declared.Below.the-variants.{Nothing, Condition, Conditions, Operands}
-use Rattle.parts.specs.Entered.{entered-below}
-
--- all that has no condition and no operand
-abbrev unentered-kinds : List ℕ
-unentered-kinds = 8 ∷ 10 ∷ 11 ∷ 12 ∷ 13 ∷ 14 ∷ 15 ∷ 16 ∷ 17 ∷ 18 ∷ 19 ∷ 20 ∷ 21 ∷ 22 ∷ 23 ∷ 24 ∷ 25 ∷ 26 ∷ 27 ∷ 28 ∷ []
-
-pub nothing-entered : (m : Node) → OneOf unentered-kinds (tagOf the-type m) → entered-below m ≡ Nothing
-unfolding entered-below
-nothing-entered =
-    by-kind (λ m. OneOf unentered-kinds (tagOf the-type m) → entered-below m ≡ Nothing)
-    (λ l r h. absurd (miss unentered-kinds 0 tt h)) (λ l r h. absurd (miss unentered-kinds 1 tt h)) (λ b h. absurd (miss unentered-kinds 2 tt h))
-    (λ b w h. absurd (miss unentered-kinds 3 tt h)) (λ b w h. absurd (miss unentered-kinds 4 tt h)) (λ l r w h. absurd (miss unentered-kinds 5 tt h))
-    (λ s y b h. absurd (miss unentered-kinds 6 tt h)) (λ o l r h. absurd (miss unentered-kinds 7 tt h)) (λ a l h. refl)
-    (λ b l h. absurd (miss unentered-kinds 9 tt h)) (λ s h. refl) (λ y h. refl) (λ y h. refl) (λ x h. refl) (λ h. refl) (λ y h. refl) (λ y h. refl) (λ y h. refl)
-    (λ k h. refl) (λ k h. refl) (λ l h. refl) (λ o l r h. refl) (λ s l b h. refl) (λ l b h. refl) (λ y h. refl) (λ h. refl) (λ f x l h. refl) (λ x l h. refl)
-    (λ s y l h. refl)
+use Rattle.views.specs.declared.Below.{Below}
+use Rattle.views.specs.declared.Below.the-variants.{Nothing, Condition, Conditions, Operands}
+use Rattle.views.specs.Entered.{entered-below}
 
 -- a condition with where a walk goes on below it: what is shown for each holds of every planted node
 module _ (t : ℕ → Tree) (n : NodeNo) (P : Below → cond → Type 0)
@@ -57,7 +39,7 @@ module _ (t : ℕ → Tree) (n : NodeNo) (P : Below → cond → Type 0)
 
 module _ (columns : List ℕ) (i : ℕ) where
   -- what a walk knows of where it goes on
-  abbrev Entered : Below → Type 0
+  abbrev pub Entered : Below → Type 0
   Entered Nothing = Unit
   Entered (Condition b) = Child columns i condition (b .0)
   Entered (Conditions l r) = Child columns i condition (l .0) × Child columns i condition (r .0)

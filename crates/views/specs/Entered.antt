@@ -1,8 +1,8 @@
 -- Where a walk goes on below a condition: to its conditions or its operands, by its node. Assumes nothing: these are definitions.
 use Rattle.paper.specs.declared.Node.{Node}
 use Rattle.paper.specs.declared.Node.the-variants as node
-use Rattle.parts.specs.declared.Below.{Below}
-use Rattle.parts.specs.declared.Below.the-variants.{Nothing, Condition, Conditions, Operands}
+use Rattle.views.specs.declared.Below.{Below}
+use Rattle.views.specs.declared.Below.the-variants.{Nothing, Condition, Conditions, Operands}
 
 unfoldable pub entered-below : Node → Below
 entered-below (node.And l r) = Conditions l r

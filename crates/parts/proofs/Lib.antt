@@ -1,2 +1,0 @@
-pub mod EnteredLaws
-pub mod PartsLaws
