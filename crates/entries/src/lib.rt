@@ -1,6 +1,7 @@
 // The rows, and over them one part of the list.
 use facts::collect_facts;
 use listing::Check;
+use listing::is_quiet;
 use listing::write_part;
 use paper::NodeNo;
 ghost use Prim.Native.Nat.{_<_};
@@ -21,6 +22,9 @@ fn part_noted(
     ensures { λ r. ⌜ Wrote (part-of check i (condition-of (now (columns .entry)) (i .0))) 0 r (now (out .entry)) (now (out .exit)) ⌝ }
 {
     collect_facts(columns, rows, i);
+    if is_quiet(columns, rows, i, check) {
+        return 0;
+    }
     write_part(columns, rows, i, check, out)
 }
 
@@ -34,14 +38,6 @@ pub fn part_entries(columns: &[u64; 513], i: NodeNo, check: Check, out: &mut [u3
     if i.0 < 32 {
         let mut few = [blank; 32];
         return part_noted(columns, i, check, &mut few, out);
-    }
-    if i.0 < 128 {
-        let mut some = [blank; 128];
-        return part_noted(columns, i, check, &mut some, out);
-    }
-    if i.0 < 256 {
-        let mut half = [blank; 256];
-        return part_noted(columns, i, check, &mut half, out);
     }
     let mut all = [blank; 512];
     part_noted(columns, i, check, &mut all, out)

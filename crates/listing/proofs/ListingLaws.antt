@@ -60,22 +60,34 @@ pub listed-are : (words : Set) (n : NodeNo) (c : Condition) {scope : Set} → sc
 unfolding listed
 listed-are words n c e = ap (λ (s : Set). scoped words (condition c) s ++ (findings (for-names 28 n (free c)) ++ demands-of c)) (sym e)
 
--- nothing is told of what is clean
-module _ (words : Set) (past : (k : ℕ) → has-none words ≡ true → words k ≡ false) (t : Tree) (n : NodeNo) (is : is-condition t ≡ true) where
+-- nothing is told of what is quiet, and of what is clean
+module _ (t : Tree) (n : NodeNo) (is : is-condition t ≡ true) where
+  pub quiet-scoping : (words seed : Set) → ((k : ℕ) → has-none words ≡ true → words k ≡ false)
+      → sound (known-of t .broken) (known-of t .binds) (known-of t .unclosed) (known-of t .free) words seed ≡ true → scoped words (condition (as-condition t)) seed ≡ []
+  quiet-scoping words seed past e = sound-scoped words past t seed is e
+
+  pub quiet-closed : has-none (free (as-condition t)) ≡ true → findings (for-names 28 n (free (as-condition t))) ≡ []
+  unfolding has-none
+  quiet-closed e = no-names 28 n (free (as-condition t)) e
+
   met-none : (sigil : Bool) → (sigil || met (known-of t .need) (known-of t .hard) none) ≡ true → pick sigil [] (demanded true (condition (as-condition t)) none) ≡ []
   met-none true e = refl
   met-none false e = met-demanded t none true is e
 
-  pub clean-listed : clean words t ≡ true → listed words n (as-condition t) ≡ []
-  unfolding clean listed demands-of has-none
-  clean-listed e =
+  pub quiet-demands : (holds-sigil (as-condition t) || met (known-of t .need) (known-of t .hard) none) ≡ true → demands-of (as-condition t) ≡ []
+  unfolding demands-of
+  quiet-demands e = met-none (holds-sigil (as-condition t)) e
+
+  pub clean-listed : (words : Set) → ((k : ℕ) → has-none words ≡ true → words k ≡ false) → clean words t ≡ true → listed words n (as-condition t) ≡ []
+  unfolding clean listed
+  clean-listed words past e =
       let k = known-of t in
       let first = and-left (sound (k .broken) (k .binds) (k .unclosed) (k .free) words none && has-none (free (as-condition t))) _ e in
       let other = and-right (sound (k .broken) (k .binds) (k .unclosed) (k .free) words none && has-none (free (as-condition t))) _ e in
       rw (
-        sound-scoped words past t none is (and-left (sound (k .broken) (k .binds) (k .unclosed) (k .free) words none) _ first),
-        no-names 28 n (free (as-condition t)) (and-right (sound (k .broken) (k .binds) (k .unclosed) (k .free) words none) _ first),
-        met-none (holds-sigil (as-condition t)) other,
+        quiet-scoping words none past (and-left (sound (k .broken) (k .binds) (k .unclosed) (k .free) words none) _ first),
+        quiet-closed (and-right (sound (k .broken) (k .binds) (k .unclosed) (k .free) words none) _ first),
+        quiet-demands other,
       )
 
 -- what a walk from the last node asks for, where the rows were gathered from there

@@ -34,7 +34,13 @@ part-of Demands n c = demands-of c
 unfoldable pub listed : Set → NodeNo → Condition → List Finding
 listed words n c = scoped words (condition c) none ++ (findings (for-names 28 n (free c)) ++ demands-of c)
 
--- by what is known of it, nothing is to be told of a root; it may say no where there is nothing
+-- by what is known of it, a part has nothing to tell of a root; it may say no where there is nothing
+unfoldable pub quiet : Check → Tree → Bool
+quiet (Scoping seed words) t = sound (known-of t .broken) (known-of t .binds) (known-of t .unclosed) (known-of t .free) (mem words) (mem seed)
+quiet Closedness t = has-none (free (as-condition t))
+quiet Demands t = holds-sigil (as-condition t) || met (known-of t .need) (known-of t .hard) none
+
+-- and so has the whole list
 unfoldable pub clean : Set → Tree → Bool
 clean words t =
     (sound (known-of t .broken) (known-of t .binds) (known-of t .unclosed) (known-of t .free) words none && has-none (free (as-condition t)))

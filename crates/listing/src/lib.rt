@@ -10,12 +10,13 @@ use rows::read::is_sound;
 use scoping::check_condition;
 ghost use mathlib.Core.Path.{_≡_};
 ghost use mathlib.Core.Bool.{true};
+ghost use mathlib.Core.List.{[]};
 ghost use Rattle.names.specs.Words.{mem};
 ghost use Rattle.record.specs.Stored.{Has};
 ghost use Rattle.known.specs.Rows.{Noted};
 ghost use Rattle.trees.specs.Trees.{tree-of, condition-of, is-condition};
 ghost use Rattle.writes.specs.Written.{Room, Wrote};
-ghost use Rattle.listing.specs.Parts.{demands-of, part-of, listed, clean};
+ghost use Rattle.listing.specs.Parts.{demands-of, part-of, listed, quiet, clean};
 
 // What one part of the list is asked for.
 pub enum Check {
@@ -80,7 +81,27 @@ pub fn write_list(
     check_demands(columns, rows, i, out, q)
 }
 
-// Whether nothing is to be told of a root: then no walk has to begin.
+// Whether a part has nothing to tell of a root: then its walk does not have to begin.
+pub fn is_quiet(columns: &[u64; 513], rows: &[[u64; 7]], i: NodeNo, check: Check) -> bool
+    requires { ⌜ Has (now columns) (i .0) × Noted (now columns) (now rows) × (is-condition (tree-of (now columns) (i .0)) ≡ true) ⌝ }
+    ensures { λ r. ⌜ (r ≡ quiet check (tree-of (now (columns .entry)) (i .0))) × (r ≡ true → part-of check i (condition-of (now (columns .entry)) (i .0)) ≡ []) ⌝ }
+{
+    match check {
+        Check::Scoping { seed, words } => is_sound(columns, rows, i, words, seed),
+        Check::Closedness => {
+            let free = collect_free(columns, rows, i);
+            names::is_empty(free)
+        }
+        Check::Demands => {
+            let none = names::empty();
+            let sigil = body_has_sigil(columns, rows, i);
+            let met = is_met(columns, rows, i, none);
+            sigil | met
+        }
+    }
+}
+
+// The same of the whole list.
 pub fn is_clean(columns: &[u64; 513], rows: &[[u64; 7]], i: NodeNo, words: Names) -> bool
     requires { ⌜ Has (now columns) (i .0) × Noted (now columns) (now rows) × (is-condition (tree-of (now columns) (i .0)) ≡ true) ⌝ }
     ensures { λ r. ⌜ r ≡ clean (mem words) (tree-of (now (columns .entry)) (i .0)) ⌝ }

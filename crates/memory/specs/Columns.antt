@@ -1,7 +1,7 @@
--- Nodes as words: 512 numbers of 64 bits, each the first eight bytes of a node's record, the kind lowest, since no node's record has more than seven; and behind
--- them how many nodes there are. Of a field a word has the two bytes that begin where the field does: a reference or a symbol is both as one number, a slot is
--- its sort and its number, and what has one byte is the lower one. Assumes nothing: these are definitions.
-use Prim.Native.Nat.{ℕ, zero, suc, _/_, _%_, _<_}
+-- Nodes as columns: one of kinds and three of fields, each of 16 bits, side by side in 512 words of 64 bits, a word for a node with its kind lowest; and behind them how
+-- many nodes there are. The fields have the six bytes of the body, two by two, so that a slot, a type byte or an op is folded in, and what begins at an odd place of the body
+-- stands in two of them. Assumes nothing: these are definitions.
+use Prim.Native.Nat.{ℕ, zero, suc, _+_, _*_, _/_, _%_, _<_}
 use mathlib.Core.Path.{_≡_}
 use mathlib.Core.Bool.{_||_}
 use mathlib.Core.List.{List, [], _∷_, _++_}
@@ -13,7 +13,7 @@ use Rattle.paper.specs.Record.{pick, Field, to, name-number, symbol, octet, com
 use Rattle.memory.specs.declared.Numbers.{Numbers}
 use Rattle.memory.specs.Decoded.{node-from}
 
--- ---- a node from its word
+-- ---- a node from its columns
 
 -- what a field says where this number stands for it
 unfoldable pub said-by : Field → ℕ → List ℕ
@@ -51,10 +51,10 @@ unfoldable pub node-told : ℕ → List ℕ → Node
 unfolding node-said second-place third-place
 node-told k ps = node-said (announced k) (getD ps 0 0 ∷ getD ps (second-place k) 0 ∷ getD ps (third-place k) 0 ∷ [])
 
--- the two bytes at each place of the body, in a word whose lowest byte is the kind
+-- the two bytes at each place of the body: those at 0, 2 and 4 are the columns of fields
 abbrev pub places-in : ℕ → List ℕ
 places-in w =
-    w / 0x100 % 0x10000 ∷ w / 0x10000 % 0x10000 ∷ w / 0x1000000 % 0x10000 ∷ w / 0x100000000 % 0x10000 ∷ w / 0x10000000000 % 0x10000 ∷ []
+    w / 0x10000 % 0x10000 ∷ w / 0x1000000 % 0x10000 ∷ w / 0x100000000 % 0x10000 ∷ w / 0x10000000000 % 0x10000 ∷ w / 0x1000000000000 % 0x10000 ∷ []
 
 -- the same as the code has it
 abbrev pub told-by : Numbers → Node
@@ -63,18 +63,18 @@ told-by n = node-told (n .kind) (n .p0 ∷ n .p1 ∷ n .p2 ∷ n .p3 ∷ n .p4 �
 abbrev pub numbers-in : ℕ → Numbers
 numbers-in w =
     record {
-      kind = w % 0x100;
-      p0 = w / 0x100 % 0x10000;
-      p1 = w / 0x10000 % 0x10000;
-      p2 = w / 0x1000000 % 0x10000;
-      p3 = w / 0x100000000 % 0x10000;
-      p4 = w / 0x10000000000 % 0x10000;
+      kind = w % 0x10000;
+      p0 = w / 0x10000 % 0x10000;
+      p1 = w / 0x1000000 % 0x10000;
+      p2 = w / 0x100000000 % 0x10000;
+      p3 = w / 0x10000000000 % 0x10000;
+      p4 = w / 0x1000000000000 % 0x10000;
     }
 
 abbrev pub node-in : List ℕ → ℕ → Node
-node-in words i = node-told (getD words i 0 % 0x100) (places-in (getD words i 0))
+node-in words i = node-told (getD words i 0 % 0x10000) (places-in (getD words i 0))
 
--- ---- the nodes that words hold
+-- ---- the nodes that columns hold
 
 unfoldable pub first-nodes : List ℕ → ℕ → List Node
 first-nodes words zero = []
@@ -84,6 +84,10 @@ unfoldable pub held : List ℕ → List Node
 held words = first-nodes words (getD words 512 0)
 
 -- ---- how they are filled
+
+-- a record as a node's columns, where these are its first eight bytes as one number, the first lowest: no node's record has more than seven
+abbrev pub in-columns : ℕ → ℕ
+in-columns w = w % 0x100 + 0x10000 * (w / 0x100 % 0x1000000000000)
 
 -- each of so many nodes is the one that its record's bytes say
 pub record Copies (bytes starts : List ℕ) (nodes : ℕ) (words : List ℕ) : Type 0 where

@@ -38,7 +38,7 @@ pub struct Scanned {
 
 // A node's record in numbers: its kind, and the two bytes at each place of its body.
 pub struct Numbers {
-    pub kind: u8,
+    pub kind: u16,
     pub p0: u16,
     pub p1: u16,
     pub p2: u16,
@@ -46,16 +46,16 @@ pub struct Numbers {
     pub p4: u16,
 }
 
-// Nodes as words: how many there are stands behind them.
+// Nodes as columns, side by side: how many there are stands behind them.
 pub const COUNT: usize = 512;
 
-// What a word is divided by, so that the two bytes at a place of the body come lowest.
-pub const PLACE_0: u64 = 0x100;
+// What a node's word is divided by, so that the two bytes at a place of its body come lowest.
+pub const PLACE_0: u64 = 0x10000;
 
-pub const PLACE_1: u64 = 0x10000;
+pub const PLACE_1: u64 = 0x1000000;
 
-pub const PLACE_2: u64 = 0x1000000;
+pub const PLACE_2: u64 = 0x100000000;
 
-pub const PLACE_3: u64 = 0x100000000;
+pub const PLACE_3: u64 = 0x10000000000;
 
-pub const PLACE_4: u64 = 0x10000000000;
+pub const PLACE_4: u64 = 0x1000000000000;

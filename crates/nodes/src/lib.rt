@@ -45,10 +45,10 @@ pub fn slot_in(x: u16) -> Slot
     slot_of(sort, number)
 }
 
-pub fn kind_in(word: u64) -> u8
-    ensures { λ r. ⌜ r ≡ word % 0x100 ⌝ }
+pub fn kind_in(word: u64) -> u16
+    ensures { λ r. ⌜ r ≡ word % 0x10000 ⌝ }
 {
-    (word % 0x100) as u8
+    (word % 0x10000) as u16
 }
 
 // The two bytes that come lowest when a word is divided by a power of 256: the compiler makes a shift of it.

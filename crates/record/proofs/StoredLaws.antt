@@ -44,10 +44,10 @@ pub few : {columns : List ℕ} {i : ℕ} → Has columns i → i < 512
 few h = let z = h .0 .formed .few-nodes in let l = h .1 in omega arith
 
 -- a node that is held, by its kind's number
-pub said : {columns : List ℕ} {i w kind n : ℕ} → Has columns i → w ≡ getD columns i 0 → kind ≡ w % 0x100 → kind ≡ n
+pub said : {columns : List ℕ} {i w kind n : ℕ} → Has columns i → w ≡ getD columns i 0 → kind ≡ w % 0x10000 → kind ≡ n
     → getD (held columns) i ListEnd ≡ node-told n (places-in w)
 said {columns} {i} {w} h p q e =
-    held-at columns i (h .1) ∙ ap (λ (x : ℕ). node-told (x % 0x100) (places-in x)) (sym p) ∙ ap (λ (k : ℕ). node-told k (places-in w)) (sym q ∙ e)
+    held-at columns i (h .1) ∙ ap (λ (x : ℕ). node-told (x % 0x10000) (places-in x)) (sym p) ∙ ap (λ (k : ℕ). node-told k (places-in w)) (sym q ∙ e)
 
 -- the reader's arena holds the bytes
 pub read-stored : (bytes : List ℕ) (r : Reading) → Read bytes r → Stored bytes (r .arena .starts)

@@ -37,7 +37,7 @@ module _ (c : tie.After-kind-in) where
 
 module _ (c : tie.After-number-in) where
   abbrev first-number : ℕ
-  first-number = c .before .before .word-at .result / 0x100 % 0x10000
+  first-number = c .before .before .word-at .result / 0x10000 % 0x10000
 
   first : c .number-in .result ≡ first-number
   first = c .number-in .ensures

@@ -75,7 +75,7 @@ compares c =
     c .compared .ensures
     ∙ ap (λ (z : Tied). compared z (left k) (right k))
     (side .eq-restricted-var .ensures ∙ ap (λ (x : ℕ). tied x (as-term (t (s .args .l .0))) (as-term (t (s .args .r .0)))) o
-    ∙ ap (λ (p : List ℕ). tied (k .before .word-at .result / 0x100 % 0x10000 % 256) (as-term (t (getD p 0 0))) (as-term (t (getD p 1 0)))) (sym (parts-are k (op .before .match .keys4))))
+    ∙ ap (λ (p : List ℕ). tied (k .before .word-at .result / 0x10000 % 0x10000 % 256) (as-term (t (getD p 0 0))) (as-term (t (getD p 1 0)))) (sym (parts-are k (op .before .match .keys4))))
     ∙ comes k (op .before .match .keys4) refl
 
 refines : tie.Need-returns-5

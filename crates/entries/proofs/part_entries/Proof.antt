@@ -1,4 +1,4 @@
--- `part_entries` has a row for each node: 32 of them, 128, 256 or 512. Assumes nothing.
+-- `part_entries` has a row for each node: 32 of them, or 512. Assumes nothing.
 use borrow.Author.Needs.{needs}
 use Rattle.listing.proofs.ListingLaws.{in-all-rows}
 use Rattle.entries.proofs.part_entries.Statement.{statement}
@@ -13,14 +13,6 @@ part-entries-spec =
     (λ c. search needs)
     (λ c. search needs)
     (λ c. search needs)
-    (λ c κs. let s = c .before .before .before .before .before .before .before .pre in ((s .0, c .before .before .if2 .taken), s .1))
-    (λ c. search needs)
-    (λ c. search needs)
-    (λ c. search needs)
-    (λ c κs. let s = c .before .before .before .before .before .before .before .before .before .pre in ((s .0, c .before .before .if3 .taken), s .1))
-    (λ c. search needs)
-    (λ c. search needs)
-    (λ c. search needs)
-    (λ c κs. let s = c .before .before .before .before .before .before .before .before .before .pre in ((s .0, in-all-rows (s .0)), s .1))
+    (λ c κs. let s = c .before .before .before .before .before .pre in ((s .0, in-all-rows (s .0)), s .1))
     (λ c. search needs)
     (λ c. search needs))

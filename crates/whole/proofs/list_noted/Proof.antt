@@ -12,7 +12,7 @@ unfolding has-none
 clean c =
     let f = c .before .before .before .before in
     let s = f .before .before .before in
-    filled-empty (clean-listed _ (λ k e. empty-everywhere (s .args .words) (search needs) e k) _ _ (from-last (s .pre .0) (f .collect-facts .ensures) .2) (sym (c .before .is-clean .ensures) ∙ c .if1 .taken))
+    filled-empty (clean-listed _ _ (from-last (s .pre .0) (f .collect-facts .ensures) .2) _ (λ k e. empty-everywhere (s .args .words) (search needs) e k) (sym (c .before .is-clean .ensures) ∙ c .if1 .taken))
 
 pub list-noted-spec : {M : Type 1} → statement M
 list-noted-spec =
