@@ -8,7 +8,7 @@ use native.Mathlib.Omega.{arith}
 use native.Mathlib.Decide.{decLt, ℕ-discrete}
 use native.Mathlib.Numerals.{add-one}
 use lib.Dec.{eqb}
-use lib.ListN.{length, take, drop, getD, set, replicate, length-set, length-drop, drop-of-length-le, List·getD-append, List·getD-eq-default, length-map}
+use lib.ListN.{length, take, drop, getD, set, replicate, length-set, drop-of-length-le, List·getD-append, List·getD-eq-default, length-map}
 use lib.Seq.{drop-cons, drop-drop, take-suc-set, getD-set-same, getD-set-other}
 use borrow.Author.Tests.{eq-eqb, ne-eqb}
 use Rattle.paper.specs.declared.Verdict.the-variants.{Refused}
@@ -22,7 +22,7 @@ use Rattle.names.specs.declared.Names.{Names}
 use Rattle.memory.specs.Rows.{row-for, row-at}
 use Rattle.memory.specs.Fields.{Marks, Shows, Marked, Same, checked-in, Added}
 use Rattle.memory.specs.Heads.{head-by, order-by}
-use Rattle.memory.specs.Naming.{named-in, reserved-as, Roomy}
+use Rattle.memory.specs.Naming.{named-in, reserved-as}
 use Rattle.memory.specs.Ends.{ended-in}
 use Rattle.memory.specs.Starts.{start-of, Holds, Scan}
 use Rattle.memory.specs.declared.Scanned.{Scanned}
@@ -51,10 +51,8 @@ pub record Looped (bytes : List ℕ) (at : ℕ) (begun : Bool) (nn nk : ℕ) (st
   pub starts-are : (i : ℕ) → i < nk → getD starts i 0 ≡ start-of bytes nn i
   pub words-are : mem words ≡ reserved (so .names)
   pub near : at ≤ 2 + 25 * nn + 7 * nk
-  pub far : 25 * nn ≤ at
   pub starts-long : length starts ≡ 512
-  pub within : nn ≤ length table
-  pub roomy : Roomy bytes table
+  pub table-long : length table ≡ 128
   pub kinds-long : length ks ≡ 512
   pub depths-long : length ds ≡ 512
 
@@ -85,10 +83,6 @@ put-shows nodes ks ds s h l m =
         ∙ ap f
         (List·getD-eq-default nodes unseen {n = k} (omega arith)
         ∙ sym (List·getD-eq-default (nodes ++ (s ∷ [])) unseen {n = k} (let w = long-by-one nodes s in omega arith)))
-
-room-kept : (bytes : List ℕ) (table after : List (List ℕ)) → length after ≡ length table → Roomy bytes table → Roomy bytes after
-unfolding Roomy
-room-kept bytes table after e r n h b = let l = r n h b in omega arith
 
 -- ---- one turn
 
@@ -176,7 +170,6 @@ module _ (bytes : List ℕ) (at : ℕ) (begun : Bool) (nn nk : ℕ) (starts : Li
     format-turn e c f =
         let s : read-record kind rest (l .so) ≡ on (after-format (l .so)) = step-format kind rest (l .so) (seen-is Format e) ∙ rw f in
         let z : at ≡ 0 = sym (l .here) ∙ l .reached .fresh (l .begun-is ∙ not-yet e c) .0 in
-        let a = l .far in
         let y : body-bytes (announced kind) ≡ 1 = ap body-bytes (class-format (announced kind) c) in
         record {
           so = after-format (l .so);
@@ -192,20 +185,13 @@ module _ (bytes : List ℕ) (at : ℕ) (begun : Bool) (nn nk : ℕ) (starts : Li
           starts-are = l .starts-are;
           words-are = l .words-are;
           near = omega arith;
-          far = omega arith;
           starts-long = l .starts-long;
-          within = l .within;
-          roomy = l .roomy;
+          table-long = l .table-long;
           kinds-long = l .kinds-long;
           depths-long = l .depths-long;
         }
 
     -- ---- a name
-
-    -- the table has room for it
-    pub name-fits : nn < 128 → 24 ≤ length rest → nn < length table
-    unfolding Roomy
-    name-fits h r = let a = l .far in let d = length-drop (at + 1) bytes in l .roomy nn h (omega arith)
 
     abbrev text : List ℕ
     text = take 24 rest
@@ -213,24 +199,23 @@ module _ (bytes : List ℕ) (at : ℕ) (begun : Bool) (nn nk : ℕ) (starts : Li
     abbrev naming : ℕ
     naming = named-in text table nn
 
-    name-is : seen ≡ Name
+    name-is : nn ≤ 128 → seen ≡ Name
         → read-record kind rest (l .so) ≡ pick (eqb naming 0) (on (after-name text (l .so))) (stop (refused naming (l .so .at)))
-    name-is e =
+    name-is h e =
         step-name kind rest (l .so) (seen-is Name e)
-        ∙ name-step text (l .so) table nn (l .within) (l .names-are) (l .nn-is)
+        ∙ name-step text (l .so) table nn (let t = l .table-long in omega arith) (l .names-are) (l .nn-is)
 
-    pub name-bad : seen ≡ Name → (naming ≡ 0 → ⊥) → read bytes ≡ refused naming at
-    name-bad e f = refused-at naming (name-is e ∙ rw (ne-eqb naming 0 f))
+    pub name-bad : nn ≤ 128 → seen ≡ Name → (naming ≡ 0 → ⊥) → read bytes ≡ refused naming at
+    name-bad h e f = refused-at naming (name-is h e ∙ rw (ne-eqb naming 0 f))
 
-    pub name-turn : (more : Names) → seen ≡ Name → row-at kind .class ≡ 2 → nn < length table → naming ≡ 0 → mem more ≡ mem words ∪ reserved-as text nn
+    pub name-turn : (more : Names) → seen ≡ Name → row-at kind .class ≡ 2 → nn < 128 → naming ≡ 0 → mem more ≡ mem words ∪ reserved-as text nn
         → Looped bytes (at + 1 + body-bytes (announced kind)) begun (nn + 1) nk starts more (set table nn text) ks ds used
     unfolding row-at body-bytes
     name-turn more e c h f m =
-        let s : read-record kind rest (l .so) ≡ on (after-name text (l .so)) = name-is e ∙ rw (eq-eqb naming 0 f) in
+        let s : read-record kind rest (l .so) ≡ on (after-name text (l .so)) = name-is (omega arith) e ∙ rw (eq-eqb naming 0 f) in
         let y : body-bytes (announced kind) ≡ 24 = ap body-bytes (class-name (announced kind) c) in
+        let t = l .table-long in
         let n = l .near in
-        let a = l .far in
-        let t = length-set table nn text in
         let none : nk ≡ 0 = sym (l .nk-is) ∙ went-named kind rest (l .so) (went kind rest (l .so) (after-name text (l .so)) s) (class-name (announced kind) c) in
         record {
           so = after-name text (l .so);
@@ -246,10 +231,8 @@ module _ (bytes : List ℕ) (at : ℕ) (begun : Bool) (nn nk : ℕ) (starts : Li
           starts-are = λ i z. absurd (omega arith);
           words-are = m ∙ ap₂ {C = Set} _∪_ (l .words-are) (ap (reserved-as text) (sym (l .nn-is))) ∙ sym (reserved-more (l .so .names) text);
           near = omega arith;
-          far = omega arith;
           starts-long = l .starts-long;
-          within = omega arith;
-          roomy = room-kept bytes table (set table nn text) t (l .roomy);
+          table-long = simp length-set t;
           kinds-long = l .kinds-long;
           depths-long = l .depths-long;
         }
@@ -312,7 +295,6 @@ module _ (bytes : List ℕ) (at : ℕ) (begun : Bool) (nn nk : ℕ) (starts : Li
         node-is (w .row) (w .is) e ∙ ap (add-node (w .row) rest (l .so)) (w .checked) in
         let short : body-bytes (announced kind) ≤ 6 = subst (λ (a : Announced). body-bytes a ≤ 6) (sym (w .is)) (known kind (w .row) (w .is) .short) in
         let p = l .near in
-        let a = l .far in
         let k = l .nk-is in
         let kl = l .kinds-long in
         let dl = l .depths-long in
@@ -331,10 +313,8 @@ module _ (bytes : List ℕ) (at : ℕ) (begun : Bool) (nn nk : ℕ) (starts : Li
           starts-are = λ i z. start-at (went-begun kind rest (l .so) (w .row) (went kind rest (l .so) next s) (w .is)) i z (decLt i nk);
           words-are = l .words-are;
           near = omega arith;
-          far = omega arith;
           starts-long = simp length-set sl;
-          within = l .within;
-          roomy = l .roomy;
+          table-long = l .table-long;
           kinds-long = simp length-set kl;
           depths-long = simp length-set dl;
         }
@@ -399,10 +379,10 @@ zero-at zero k = refl
 zero-at (suc n) zero = refl
 zero-at (suc n) (suc k) = zero-at n k
 
-pub loop-start : (bytes starts : List ℕ) (words : Names) (table : List (List ℕ)) → length starts ≡ 512 → Roomy bytes table → mem words ≡ none
-    → Looped bytes 0 false 0 0 starts words table (replicate 512 0) (replicate 512 0) (replicate 512 0)
+pub loop-start : (bytes starts : List ℕ) (words : Names) → length starts ≡ 512 → mem words ≡ none
+    → Looped bytes 0 false 0 0 starts words (replicate 128 (replicate 24 0)) (replicate 512 0) (replicate 512 0) (replicate 512 0)
 unfolding read nothing-read reserved is-reserved is-word ascii none
-loop-start bytes starts words table long room e =
+loop-start bytes starts words long e =
     record {
       so = nothing-read;
       run = refl;
@@ -417,10 +397,8 @@ loop-start bytes starts words table long room e =
       starts-are = λ i h. absurd (omega arith);
       words-are = e;
       near = omega arith;
-      far = omega arith;
       starts-long = long;
-      within = omega arith;
-      roomy = room;
+      table-long = refl;
       kinds-long = refl;
       depths-long = refl;
     }

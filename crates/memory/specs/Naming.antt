@@ -1,9 +1,9 @@
 -- A new name, over the reader's table. Assumes nothing: these are definitions.
-use Prim.Native.Nat.{ℕ, _+_, _*_, _-_, _<_, _≤_}
+use Prim.Native.Nat.{ℕ, _-_}
 use mathlib.Core.Bool.{_&&_}
 use mathlib.Core.List.{List, []}
 use lib.Dec.{eqb}
-use lib.ListN.{length, getD}
+use lib.ListN.{getD}
 use Rattle.paper.specs.Sets.{Set}
 use Rattle.paper.specs.Record.{pick, is-name, precedes}
 use Rattle.paper.specs.Scoping.{is-reserved}
@@ -15,7 +15,3 @@ named-in n names count = pick (is-name n) (pick (eqb count 0) 0 (pick (precedes 
 -- the name as a reserved one, if it is
 unfoldable pub reserved-as : List ℕ → ℕ → Set
 reserved-as n x k = eqb k x && is-reserved n
-
--- a table has room for as many names as the bytes can have records of them, up to 128
-unfoldable pub Roomy : List ℕ → List (List ℕ) → Type 0
-Roomy bytes table = (n : ℕ) → n < 128 → 25 * (n + 1) ≤ length bytes → n < length table

@@ -15,7 +15,6 @@ use words::copied;
 ghost use mathlib.Core.Path.{_≡_};
 ghost use lib.ListN.{length};
 ghost use Rattle.paper.specs.declared.Verdict.the-variants.{Refused};
-ghost use Rattle.memory.specs.Naming.{Roomy};
 ghost use Rattle.memory.specs.Starts.{Scan};
 
 fn refused(number: u8, offset: usize, reserved: Names) -> Scanned
@@ -31,11 +30,13 @@ fn refused(number: u8, offset: usize, reserved: Names) -> Scanned
     }
 }
 
-// The names are put into the lent table, and where each node's record starts into the lent array.
-pub fn scan_records(bytes: &[u8], table: &mut [[u8; 24]], starts: &mut [u16; 512]) -> Scanned
-    requires { ⌜ Roomy (now bytes) (now table) × (length (now starts) ≡ 512) ⌝ }
+// Where each node's record starts is put into the lent array.
+pub fn scan_records(bytes: &[u8], starts: &mut [u16; 512]) -> Scanned
+    requires { ⌜ length (now starts) ≡ 512 ⌝ }
     ensures { λ r. ⌜ Scan (now (bytes .entry)) r (now (starts .exit)) ⌝ }
 {
+    let blank = [0u8; 24];
+    let mut table = [blank; 128];
     let mut kinds = [0u8; 512];
     let mut depths = [0u8; 512];
     let mut used = [0u8; 512];
@@ -62,7 +63,7 @@ pub fn scan_records(bytes: &[u8], table: &mut [[u8; 24]], starts: &mut [u16; 512
             }
             Head::Name => {
                 let n = copied(body);
-                let fault = add_name(n, table, nn);
+                let fault = add_name(n, &mut table, nn);
                 if fault != 0 {
                     return refused(fault, at, reserved);
                 }

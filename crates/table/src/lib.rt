@@ -6,14 +6,14 @@ use words::is_reserved;
 use words::precedes;
 ghost use mathlib.Core.Path.{_≡_};
 ghost use Prim.Native.Nat.{_≤_, _<_};
-ghost use lib.ListN.{length, set};
+ghost use lib.ListN.{set};
 ghost use Rattle.paper.specs.Sets.{_∪_};
 ghost use Rattle.names.specs.Words.{mem};
 ghost use Rattle.memory.specs.Naming.{named-in, reserved-as};
 
 // The fault of a new name, or 0: 4 where it is none, 5 where it is not above the one before.
-fn named(n: [u8; 24], names: &[[u8; 24]], count: usize) -> u8
-    requires { ⌜ count ≤ length (now names) ⌝ }
+fn named(n: [u8; 24], names: &[[u8; 24]; 128], count: usize) -> u8
+    requires { ⌜ count ≤ 128 ⌝ }
     ensures { λ r. ⌜ r ≡ named-in n (now (names .entry)) count ⌝ }
 {
     if !is_name(n) {
@@ -27,8 +27,8 @@ fn named(n: [u8; 24], names: &[[u8; 24]], count: usize) -> u8
 }
 
 // The fault of a new name, or 0. It is put into the table in either case, since nothing is read after a fault.
-pub fn add_name(n: [u8; 24], names: &mut [[u8; 24]], count: usize) -> u8
-    requires { ⌜ count < length (now names) ⌝ }
+pub fn add_name(n: [u8; 24], names: &mut [[u8; 24]; 128], count: usize) -> u8
+    requires { ⌜ count < 128 ⌝ }
     ensures { λ r. ⌜ (r ≡ named-in n (now (names .entry)) count) × (now (names .exit) ≡ set (now (names .entry)) count n) ⌝ }
 {
     let fault = named(n, names, count);

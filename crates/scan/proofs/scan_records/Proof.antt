@@ -1,12 +1,12 @@
 -- `scan_records` meets its contract: the invariant says what the arrays hold of the records read so far, and each arm cites the law of its turn.
 -- Assumes nothing.
-use mathlib.Core.Path.{_≡_, refl, sym, ap, ap₂, _∙_}
+use mathlib.Core.Path.{_≡_, sym, ap, ap₂, _∙_}
 use mathlib.Core.List.{List}
 use Prim.Native.Nat.{ℕ, _+_, _≤_, _<_, _-_}
 use native.Mathlib.Omega.{arith}
 use borrow.Author.Needs.{needs}
 use borrow.Author.Tests.{eq-eqb, ne-eqb}
-use lib.ListN.{length, getD, drop, take, length-drop, length-set}
+use lib.ListN.{length, getD, drop, take, length-drop}
 use lib.Seq.{take-all}
 use Rattle.paper.specs.declared.Verdict.the-variants.{Refused}
 use Rattle.paper.specs.Record.{Announced, announced, body-bytes}
@@ -15,16 +15,16 @@ use Rattle.memory.specs.Fields.{Marked, checked-in}
 use Rattle.memory.specs.Heads.{head-by}
 use Rattle.memory.specs.declared.Row.{Row}
 use Rattle.memory.proofs.KindLaws.{row-length, class-name}
-use Rattle.memory.proofs.ReadLaws.{Looped, counts, out, bad-turn, format-bad, format-turn, name-fits, name-bad, name-turn, node-bad, node-turn-by, end-verdict, end-holds, refused-scan, loop-start}
+use Rattle.memory.proofs.ReadLaws.{Looped, counts, out, bad-turn, format-bad, format-turn, name-bad, name-turn, node-bad, node-turn-by, end-verdict, end-holds, refused-scan, loop-start}
 use Rattle.scan.proofs.scan_records.Statement.{statement}
 use Rattle.scan.proofs.scan_records.Tie as tie
 
 abbrev Inv-loop : tie.InvT-loop
-Inv-loop bytes table₀ starts₀ kinds₀ depths₀ used₀ reserved₀ at₀ begun₀ nn₀ nk₀ table starts kinds depths used reserved at begun nn nk =
-    Looped bytes at begun nn nk starts reserved table kinds depths used × (length table ≡ length table₀)
+Inv-loop bytes starts₀ table₀ kinds₀ depths₀ used₀ reserved₀ at₀ begun₀ nn₀ nk₀ starts table kinds depths used reserved at begun nn nk =
+    Looped bytes at begun nn nk starts reserved table kinds depths used
 
 abbrev μ-loop : tie.MeasureT-loop
-μ-loop bytes table₀ starts₀ kinds₀ depths₀ used₀ reserved₀ at₀ begun₀ nn₀ nk₀ table starts kinds depths used reserved at begun nn nk =
+μ-loop bytes starts₀ table₀ kinds₀ depths₀ used₀ reserved₀ at₀ begun₀ nn₀ nk₀ starts table kinds depths used reserved at begun nn nk =
     length bytes - at
 
 -- what is known where the head has been read, for every arm
@@ -106,7 +106,7 @@ empty-requires : tie.Need-empty-requires Inv-loop μ-loop
 empty-requires c κs = tt
 
 loop-holds : tie.Need-loop-holds Inv-loop μ-loop
-loop-holds c = (loop-start _ _ _ _ (c .before .before .pre .1) (c .before .before .pre .0) (c .empty .ensures), refl)
+loop-holds c = loop-start _ _ _ (c .before .before .pre) (c .empty .ensures)
 
 shared-slice-read-kind : tie.Need-shared-slice-read-kind Inv-loop μ-loop
 shared-slice-read-kind c = omega arith
@@ -147,7 +147,7 @@ refused-requires c κs = tt
 returns : tie.Need-returns Inv-loop μ-loop
 returns c =
     let d = c .before .before .before .before in
-    refused-scan _ _ _ _ _ (bad-turn _ _ _ _ _ _ _ _ _ _ _ (d .before .before .before .before .before .before .loop .inv .0) (inside d) _ (sym (head-is d) ∙ c .before .before .number .given .1)) (c .refused .ensures)
+    refused-scan _ _ _ _ _ (bad-turn _ _ _ _ _ _ _ _ _ _ _ (d .before .before .before .before .before .before .loop .inv) (inside d) _ (sym (head-is d) ∙ c .before .before .number .given .1)) (c .refused .ensures)
 
 enum-told : tie.Need-enum-told Inv-loop μ-loop
 enum-told c = search needs
@@ -162,7 +162,7 @@ returns-2 : tie.Need-returns-2 Inv-loop μ-loop
 returns-2 c =
     let d = c .before .before .before .before .before in
     let f = rw (c .before .before .byte .ensures, part d) at (ne-eqb _ _ (c .before .if1 .taken)) in
-    refused-scan _ _ _ _ _ (format-bad _ _ _ _ _ _ _ _ _ _ _ (d .before .before .before .before .before .before .loop .inv .0) (inside d) (sym (head-is d) ∙ c .before .before .before .enum-told .given .1) f) (c .refused2 .ensures)
+    refused-scan _ _ _ _ _ (format-bad _ _ _ _ _ _ _ _ _ _ _ (d .before .before .before .before .before .before .loop .inv) (inside d) (sym (head-is d) ∙ c .before .before .before .enum-told .given .1) f) (c .refused2 .ensures)
 
 loop-less : tie.Need-loop-less Inv-loop μ-loop
 loop-less c = omega arith
@@ -170,10 +170,8 @@ loop-less c = omega arith
 loop-again : tie.Need-loop-again Inv-loop μ-loop
 loop-again c =
     let d = c .before .before .before .before in
-    let f = rw (c .before .byte .ensures, part d) at (eq-eqb _ _ (c .if1 .left)) in (
-      rw (len-is d) (format-turn _ _ _ _ _ _ _ _ _ _ _ (d .before .before .before .before .before .before .loop .inv .0) (inside d) (sym (head-is d) ∙ c .before .before .enum-told .given .1) (format-class (c .before .before)) f),
-      d .before .before .before .before .before .before .loop .inv .1,
-    )
+    let f = rw (c .before .byte .ensures, part d) at (eq-eqb _ _ (c .if1 .left)) in
+    rw (len-is d) (format-turn _ _ _ _ _ _ _ _ _ _ _ (d .before .before .before .before .before .before .loop .inv) (inside d) (sym (head-is d) ∙ c .before .before .enum-told .given .1) (format-class (c .before .before)) f)
 
 enum-told-2 : tie.Need-enum-told-2 Inv-loop μ-loop
 enum-told-2 c = search needs
@@ -182,46 +180,35 @@ copied-requires : tie.Need-copied-requires Inv-loop μ-loop
 copied-requires c κs = rw (part (c .before .before)) (name-room c .1)
 
 add-name-requires : tie.Need-add-name-requires Inv-loop μ-loop
-add-name-requires c κs =
-    let d = c .before .before .before .before in
-    let r = name-room (c .before .before) in
-    name-fits _ _ _ _ _ _ _ _ _ _ _ (d .before .before .before .before .before .before .loop .inv .0) (inside d) (r .2) (r .1)
+add-name-requires c κs = name-room (c .before .before) .2
 
 refused-requires-3 : tie.Need-refused-requires-3 Inv-loop μ-loop
 refused-requires-3 c κs = tt
 
-same-length-3 : tie.Need-same-length-3 Inv-loop μ-loop
-same-length-3 c =
-    let l = c .before .before .before .before .before .before .before .before .before .before .before .before .before .before .loop in
-    ap length (c .before .before .before .add-name .ensures .1) ∙ length-set (l .table) (l .nn) (c .before .before .before .before .before .copied .result) ∙ l .inv .1
-
 returns-3 : tie.Need-returns-3 Inv-loop μ-loop
 returns-3 c =
-    let d = c .before .before .before .before .before .before .before .before in
-    let n = rw (copied-is (c .before .before .before .before .before)) at (c .before .before .before .add-name .ensures .0) in
-    refused-scan _ _ _ _ _ (name-bad _ _ _ _ _ _ _ _ _ _ _ (d .before .before .before .before .before .before .loop .inv .0) (inside d) (sym (head-is d) ∙ c .before .before .before .before .before .before .enum-told2 .given .1) (λ e. c .before .if2 .taken (n ∙ e))) (c .refused3 .ensures ∙ ap (λ (m : ℕ). Refused m (v-at d)) n)
+    let d = c .before .before .before .before .before .before .before in
+    let z = name-room (c .before .before .before .before .before) .2 in
+    let n = rw (copied-is (c .before .before .before .before)) at (c .before .before .add-name .ensures .0) in
+    refused-scan _ _ _ _ _ (name-bad _ _ _ _ _ _ _ _ _ _ _ (d .before .before .before .before .before .before .loop .inv) (inside d) (omega arith) (sym (head-is d) ∙ c .before .before .before .before .before .enum-told2 .given .1) (λ e. c .before .if2 .taken (n ∙ e))) (c .refused3 .ensures ∙ ap (λ (m : ℕ). Refused m (v-at d)) n)
 
 reserved-with-requires : tie.Need-reserved-with-requires Inv-loop μ-loop
-reserved-with-requires c κs = name-room (c .before .before .before .before .before) .2
+reserved-with-requires c κs = name-room (c .before .before .before .before) .2
 
 add-nn : tie.Need-add-nn Inv-loop μ-loop
-add-nn c = let z = name-room (c .before .before .before .before .before .before) .2 in omega arith
+add-nn c = let z = name-room (c .before .before .before .before .before) .2 in omega arith
 
 loop-less-2 : tie.Need-loop-less-2 Inv-loop μ-loop
 loop-less-2 c = omega arith
 
 loop-again-2 : tie.Need-loop-again-2 Inv-loop μ-loop
 loop-again-2 c =
-    let d = c .before .before .before .before .before .before .before .before in
-    let l = d .before .before .before .before .before .before .loop in
-    let r = name-room (c .before .before .before .before .before .before) in
-    let i = copied-is (c .before .before .before .before .before) in
-    let n = rw i at (c .before .before .before .add-name .ensures .0) in
+    let d = c .before .before .before .before .before .before .before in
+    let r = name-room (c .before .before .before .before .before) in
+    let i = copied-is (c .before .before .before .before) in
+    let n = rw i at (c .before .before .add-name .ensures .0) in
     let m = rw i at (c .reserved-with .ensures) in
-    let fits = name-fits _ _ _ _ _ _ _ _ _ _ _ (l .inv .0) (inside d) (r .2) (r .1) in (
-      rw (len-is d, c .before .before .before .add-name .ensures .1, i) (name-turn _ _ _ _ _ _ _ _ _ _ _ (l .inv .0) (inside d) (c .reserved-with .result) (sym (head-is d) ∙ c .before .before .before .before .before .before .enum-told2 .given .1) (r .0) fits (sym n ∙ c .before .if2 .left) m),
-      ap length (c .before .before .before .add-name .ensures .1) ∙ length-set (l .table) (l .nn) (c .before .before .before .before .before .copied .result) ∙ l .inv .1,
-    )
+    rw (len-is d, c .before .before .add-name .ensures .1, i) (name-turn _ _ _ _ _ _ _ _ _ _ _ (d .before .before .before .before .before .before .loop .inv) (inside d) (c .reserved-with .result) (sym (head-is d) ∙ c .before .before .before .before .before .enum-told2 .given .1) (r .0) (r .2) (sym n ∙ c .before .if2 .left) m)
 
 enum-told-3 : tie.Need-enum-told-3 Inv-loop μ-loop
 enum-told-3 c = search needs
@@ -237,11 +224,11 @@ returns-4 c =
     let d = c .before .before .before .before .before .before .before .before in
     let b = c .before .before in
     let r = node-room (c .before .before .before .before .before .before) in
-    refused-scan _ _ _ _ _ (node-bad _ _ _ _ _ _ _ _ _ _ _ (d .before .before .before .before .before .before .loop .inv .0) (inside d) (let z = r .1 in omega arith) (r .0) (sym (head-is d) ∙ c .before .before .before .before .before .before .enum-told3 .given .1) (λ e. c .before .if3 .taken (fault-is b ∙ e))) (c .refused4 .ensures ∙ ap (λ (m : ℕ). Refused m (v-at d)) (fault-is b))
+    refused-scan _ _ _ _ _ (node-bad _ _ _ _ _ _ _ _ _ _ _ (d .before .before .before .before .before .before .loop .inv) (inside d) (let z = r .1 in omega arith) (r .0) (sym (head-is d) ∙ c .before .before .before .before .before .before .enum-told3 .given .1) (λ e. c .before .if3 .taken (fault-is b ∙ e))) (c .refused4 .ensures ∙ ap (λ (m : ℕ). Refused m (v-at d)) (fault-is b))
 
 cast-starts : tie.Need-cast-starts Inv-loop μ-loop
 cast-starts c =
-    let i = c .before .before .before .before .before .before .before .before .before .before .before .before .before .loop .inv .0 in let n = i .near in let q = counts _ _ _ _ _ _ _ _ _ _ _ i in omega arith
+    let i = c .before .before .before .before .before .before .before .before .before .before .before .before .before .loop .inv in let n = i .near in let q = counts _ _ _ _ _ _ _ _ _ _ _ i in omega arith
 
 mul-starts : tie.Need-mul-starts Inv-loop μ-loop
 mul-starts c = let h = node-room (c .before .before .before .before .before) .1 in omega arith
@@ -258,22 +245,20 @@ loop-less-3 c = omega arith
 loop-again-3 : tie.Need-loop-again-3 Inv-loop μ-loop
 loop-again-3 c =
     let d = c .before .before .before .before .before .before .before in
-    let r = node-room (c .before .before .before .before .before) in (
-      rw (len-is d)
-          (node-turn-by _ _ _ _ _ _ _ _ _ _ _ (d .before .before .before .before .before .before .loop .inv .0) (inside d) _ (found-is (c .before)) _ _ _ _ (c .before .add-node .ensures) (r .1) (r .0) (sym (head-is d) ∙ c .before .before .before .before .before .enum-told3 .given .1) (c .if3 .left)),
-      d .before .before .before .before .before .before .loop .inv .1,
-    )
+    let r = node-room (c .before .before .before .before .before) in
+    rw (len-is d)
+    (node-turn-by _ _ _ _ _ _ _ _ _ _ _ (d .before .before .before .before .before .before .loop .inv) (inside d) _ (found-is (c .before)) _ _ _ _ (c .before .add-node .ensures) (r .1) (r .0) (sym (head-is d) ∙ c .before .before .before .before .before .enum-told3 .given .1) (c .if3 .left))
 
 enum-told-4 : tie.Need-enum-told-4 Inv-loop μ-loop
 enum-told-4 c = search needs
 
 ended-requires : tie.Need-ended-requires Inv-loop μ-loop
-ended-requires c κs = let q = counts _ _ _ _ _ _ _ _ _ _ _ (c .before .before .before .before .before .before .before .before .before .before .loop .inv .0) in q .1
+ended-requires c κs = let q = counts _ _ _ _ _ _ _ _ _ _ _ (c .before .before .before .before .before .before .before .before .before .before .loop .inv) in q .1
 
 returns-5 : tie.Need-returns-5 Inv-loop μ-loop
 returns-5 c =
     let d = c .before .before .before .before .before in
-    let i = d .before .before .before .before .before .before .loop .inv .0 in
+    let i = d .before .before .before .before .before .before .loop .inv in
     let e = sym (head-is d) ∙ c .before .before .before .enum-told4 .given .1 in
     record {
       said = rw (part d) at (c .ended .ensures) ∙ end-verdict _ _ _ _ _ _ _ _ _ _ _ i (inside d) (counts _ _ _ _ _ _ _ _ _ _ _ i .1) e;
@@ -284,7 +269,7 @@ refused-requires-5 : tie.Need-refused-requires-5 Inv-loop μ-loop
 refused-requires-5 c κs = tt
 
 returns-6 : tie.Need-returns-6 Inv-loop μ-loop
-returns-6 c = refused-scan _ _ _ _ _ (out _ _ _ _ _ _ _ _ _ _ _ (c .before .before .loop .inv .0) (c .before .loop-test .left)) (c .refused5 .ensures)
+returns-6 c = refused-scan _ _ _ _ _ (out _ _ _ _ _ _ _ _ _ _ _ (c .before .before .loop .inv) (c .before .loop-test .left)) (c .refused5 .ensures)
 
 pub scan-records-spec : {M : Type 1} → statement M
 scan-records-spec =
@@ -306,12 +291,10 @@ scan-records-spec =
     head-of-requires
     enum-known-number
     refused-requires
-    (λ c. c .before .before .before .before .before .before .before .before .before .before .loop .inv .1)
     returns
     enum-told
     byte-requires
     refused-requires-2
-    (λ c. c .before .before .before .before .before .before .before .before .before .before .before .loop .inv .1)
     returns-2
     loop-less
     loop-again
@@ -319,7 +302,6 @@ scan-records-spec =
     copied-requires
     add-name-requires
     refused-requires-3
-    same-length-3
     returns-3
     reserved-with-requires
     add-nn
@@ -328,7 +310,6 @@ scan-records-spec =
     enum-told-3
     add-node-requires
     refused-requires-4
-    (λ c. c .before .before .before .before .before .before .before .before .before .before .before .before .before .before .loop .inv .1)
     returns-4
     cast-starts
     mul-starts
@@ -338,8 +319,6 @@ scan-records-spec =
     loop-again-3
     enum-told-4
     ended-requires
-    (λ c. c .before .before .before .before .before .before .before .before .before .before .before .loop .inv .1)
     returns-5
     refused-requires-5
-    (λ c. c .before .before .loop .inv .1)
     returns-6)

@@ -23,8 +23,8 @@ sub-last c = search needs
 mul-last : tie.Need-mul-last
 mul-last c = search needs
 
-shared-slice-copy-out-last : tie.Need-shared-slice-copy-out-last
-shared-slice-copy-out-last c = search needs
+element-copy-out-last : tie.Need-element-copy-out-last
+element-copy-out-last c = search needs
 
 precedes-requires : tie.Need-precedes-requires
 precedes-requires c κs = search needs
@@ -46,7 +46,7 @@ named-spec =
     returns-2
     sub-last
     mul-last
-    shared-slice-copy-out-last
+    element-copy-out-last
     precedes-requires
     returns-3
     returns-4)

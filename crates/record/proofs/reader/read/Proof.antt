@@ -4,7 +4,7 @@ use Rattle.record.proofs.reader.read.Statement.{statement}
 use Rattle.record.proofs.reader.read.Tie as tie
 
 returns : tie.Need-returns
-returns c = let s = c .before .scanned .ensures in record { said = s .said; held = s .held }
+returns c = let s = c .before .scan-records .ensures in record { said = s .said; held = s .held }
 
 pub read-spec : {M : Type 1} → statement M
 read-spec = tie.close (tie.spec (λ c κs. refl) returns)
