@@ -48,9 +48,6 @@ module _ {columns : List ℕ} {i : ℕ} where
 
 -- ---- where the ways of an arm meet, its variables are equal to the fields of the node
 
-pub met₁ : (F : NodeNo → Node → Type 0) (f : NodeNo → Node) → ((b : NodeNo) → F b (f b)) → {g : Node} {x b : NodeNo} → g ≡ f x → b ≡ x → F b g
-met₁ F f s {b = b} e p = subst (F b) (sym (e ∙ ap f (sym p))) (s b)
-
 pub met₂ : (F : NodeNo → NodeNo → Node → Type 0) (f : NodeNo → NodeNo → Node) → ((l r : NodeNo) → F l r (f l r)) → {g : Node} {x y l r : NodeNo} → g ≡ f x y → l ≡ x
     → r ≡ y → F l r g
 met₂ F f s {l = l} {r = r} e p q = subst (F l r) (sym (e ∙ ap₂ f (sym p) (sym q))) (s l r)
