@@ -20,6 +20,7 @@ use together::and_facts;
 use together::arith_facts;
 use together::bound;
 use together::compared;
+use together::equated;
 use together::join_facts;
 use together::loose;
 use together::naming;
@@ -156,8 +157,12 @@ pub fn pair_facts(columns: &[u64; 513], rows: &[[u64; 7]], i: NodeNo, l: NodeNo,
         0x15 => since_facts(left, right),
         0x17 => {
             let op = lower(number_in(word, PLACE_0));
-            let side = eq_restricted_var(columns, op, l, r);
-            compared(side, left, right)
+            if op == 0 {
+                let side = eq_restricted_var(columns, l, r);
+                equated(side, left, right)
+            } else {
+                compared(left, right)
+            }
         }
         0x19 => refined(left, right),
         0x28 => arith_facts(left, right),

@@ -9,21 +9,22 @@ use Rattle.paper.proofs.Node.{the-type}
 use Rattle.paper.specs.declared.NodeNo.{NodeNo}
 use Rattle.paper.specs.declared.Node.{Node}
 use Rattle.paper.specs.declared.Node.the-variants as node
+use Rattle.paper.specs.declared.Equality.{Equality}
 use Rattle.paper.specs.Sets.{Set, none, _∪_, outside}
-use Rattle.paper.specs.Record.{condition, term, arguments, items, binders}
+use Rattle.paper.specs.Record.{pick, condition, term, arguments, items, binders}
 use Rattle.paper.specs.Shape.{references}
 use Rattle.paper.specs.Tree as tree
 use Rattle.paper.specs.Tree.{Arguments, Items, Tree, as-condition, as-term, as-arguments, as-items, as-binders, planted}
 use Rattle.paper.specs.Tree.Arguments.{no-argument, argument}
 use Rattle.paper.specs.Tree.Items.{no-item, item}
-use Rattle.paper.specs.FreeAndRestricted.{is-sigil, binder-names, free, term-free, arguments-free, items-free, bare, about, direct, tied, tied-name, restricted, holds-sigil, term-sigil, arguments-sigil, items-sigil}
+use Rattle.paper.specs.FreeAndRestricted.{is-sigil, binder-names, free, term-free, arguments-free, items-free, bare, about, direct, equality, tied-name, is-equality, restricted, holds-sigil, term-sigil, arguments-sigil, items-sigil}
 use Rattle.paper.proofs.Walks.{All}
 use Rattle.paper.proofs.Weights.{of-sort}
 use Rattle.trees.specs.Trees.{is-condition, is-term}
 use Rattle.trees.proofs.ByKind.{by-kind}
 use Rattle.paper.specs.Scoping.{binder-sigil}
-use Rattle.known.specs.Needs.{slot-in, need, hard, unfit, computed, arguments-computed, items-computed, reckoned, broken, binds, unclosed}
-use Rattle.known.specs.Known.{Known, nothing, way, from-parts, parts-of, opaque, naming, both, join, searched, loose, refined, bound, gathered, and-known, or-known, arith-known, since-known, compared, condition-known, term-known, arguments-known, items-known, known-of, own}
+use Rattle.known.specs.Needs.{slot-in, owes, need, hard, unfit, computed, arguments-computed, items-computed, reckoned, broken, binds, unclosed}
+use Rattle.known.specs.Known.{Known, nothing, way, from-parts, parts-of, opaque, naming, both, join, searched, loose, refined, bound, gathered, and-known, or-known, arith-known, since-known, compared, equated, condition-known, term-known, arguments-known, items-known, known-of, own}
 
 -- ---- putting facts together
 
@@ -168,10 +169,16 @@ refine-known n b l =
     known-is (ap (_∪_ (free b)) (arguments-are-free l)) (ap (_∪_ (restricted b)) (arguments-are-direct l)) refl (ap (_||_ (holds-sigil b)) (arguments-are-sigils l))
     refl refl refl refl refl
 
+comparison-known : (equal : Bool) (side : Equality) (a b : Known)
+    → pick equal (equated side) compared a b ≡ both a b (pick equal (tied-name side) none) (pick equal (owes side (a .free) (b .free)) (a .free ∪ b .free) ∪ (a .need ∪ b .need))
+unfolding equated compared
+comparison-known true side a b = refl
+comparison-known false side a b = refl
+
 -- ---- a node's tree
 
 pub planted-known : (t : ℕ → Tree) (n : NodeNo) (m : Node) → All (λ p. of-sort (p .0) (t (p .1)) ≡ true) (references m) → known-of (planted t n m) ≡ own t m
-unfolding planted known-of own way from-parts parts-of condition-known term-known arguments-known items-known free restricted about bare holds-sigil need hard broken binds unclosed computed reckoned and-known or-known arith-known since-known compared bound gathered unfit loose naming nothing opaque both
+unfolding planted known-of own way from-parts parts-of condition-known term-known arguments-known items-known free restricted about bare holds-sigil need hard broken binds unclosed computed reckoned and-known or-known arith-known since-known bound gathered unfit loose naming nothing opaque both
 planted-known t n (node.And l r) f = ap₂ and-known (sym (body-known _ (f .0))) (sym (body-known _ (f .1 .0)))
 planted-known t n (node.Or l r) f = ap₂ or-known (sym (body-known _ (f .0))) (sym (body-known _ (f .1 .0)))
 planted-known t n (node.Not b) f = ap loose (sym (body-known _ (f .0)))
@@ -180,7 +187,8 @@ planted-known t n (node.Previous b w) f = sym (body-known _ (f .0))
 planted-known t n (node.Since l r w) f = ap₂ since-known (sym (body-known _ (f .0))) (sym (body-known _ (f .1 .0)))
 planted-known t n (node.Exists s y b) f = ap (λ (a : Known). bound a s) (sym (body-known _ (f .0)))
 planted-known t n (node.Comparison o l r) f =
-    ap₂ (compared (tied o (as-term (t (l .0))) (as-term (t (r .0))))) (sym (one-known _ (f .0))) (sym (one-known _ (f .1 .0)))
+    let side = equality (as-term (t (l .0))) (as-term (t (r .0))) in
+    sym (ap₂ (pick (is-equality o) (equated side) compared) (one-known _ (f .0)) (one-known _ (f .1 .0)) ∙ comparison-known (is-equality o) side _ _)
 planted-known t n (node.Predicate a l) f = sym (ap (λ (k : Known). searched k (k .restricted)) (list-known _ (f .0)) ∙ predicate-known n a (as-arguments (t (l .0))))
 planted-known t n (node.Refine b l) f = sym (ap₂ refined (body-known _ (f .0)) (list-known _ (f .1 .0)) ∙ refine-known n (as-condition (t (b .0))) (as-arguments (t (l .0))))
 planted-known t n (node.Tp s) f = refl

@@ -7,17 +7,17 @@ use Rattle.paper.specs.declared.NodeNo.{NodeNo}
 use Rattle.paper.specs.declared.Finding.{Finding}
 use Rattle.paper.specs.declared.Slot.{Slot}
 use Rattle.paper.specs.declared.Slot.the-variants as slot
-use Rattle.paper.specs.declared.Tied.{Tied}
-use Rattle.paper.specs.declared.Tied.the-variants.{Left, Right, Neither}
+use Rattle.paper.specs.declared.Equality.{Equality}
+use Rattle.paper.specs.declared.Equality.the-variants.{Left, Right, Nothing}
 use Rattle.paper.specs.Record.{pick, name-no}
 use Rattle.paper.specs.Sets.{Set, none, only, _∪_, _∖_, outside, members}
 use Rattle.paper.specs.Tree.{Condition, Term, Binders, Tree, as-condition, as-term}
 use Rattle.paper.specs.Tree.Condition.{And, Or, Not, Past, Since, Exists, Comparison, Predicate, Refine, Tp, Opaque}
 use Rattle.paper.specs.Tree.Term.{Var, Wildcard, Value, Sigil, Array, Arith, Sum, Count, AggregateCall}
 use Rattle.paper.specs.Tree.Binders.{no-binder, binder}
-use Rattle.paper.specs.FreeAndRestricted.{named, binder-names, free, term-free, restricted, tied}
+use Rattle.paper.specs.FreeAndRestricted.{named, binder-names, free, term-free, restricted, equality, is-equality}
 use Rattle.paper.specs.Places.{Spot, condition, operand, Place, asked-at, Broken, for-names, gather, findings, found}
-use Rattle.paper.specs.Demands.{comparison-broken, demand-below, demand-broken}
+use Rattle.paper.specs.Demands.{equality-broken, other-broken, demand-below, demand-broken}
 use Rattle.paper.proofs.SetLaws.{all-get, members-none}
 use Rattle.paper.proofs.Walks.{found-at}
 use Rattle.paper.proofs.Exact.{extent-pos, demand-shrinks}
@@ -55,11 +55,14 @@ for-none : (rule : ℕ) (n : NodeNo) (s ties : Set) → Covers s ties → gather
 unfolding gather findings
 for-none rule n s ties f = rw (none-left s ties f)
 
-by-side : (n : NodeNo) (l r : Term) (ties : Set) (side : Tied) → Covers (owes side (term-free l) (term-free r)) ties → gather findings (comparison-broken n l r ties side) ≡ []
+by-side : (n : NodeNo) (l r : Term) (ties : Set) (equal : Bool) (side : Equality)
+    → Covers (pick equal (owes side (term-free l) (term-free r)) (term-free l ∪ term-free r)) ties
+    → gather findings (pick equal (equality-broken n l r ties side) (other-broken n l r ties) ∷ []) ≡ []
 unfolding owes
-by-side n l r ties (Left x) f = for-none 30 n (term-free r) ties f
-by-side n l r ties (Right x) f = for-none 30 n (term-free l) ties f
-by-side n l r ties Neither f = for-none 31 n (term-free l ∪ term-free r) ties f
+by-side n l r ties true (Left x) f = for-none 30 n (term-free r) ties f
+by-side n l r ties true (Right x) f = for-none 30 n (term-free l) ties f
+by-side n l r ties true (Nothing why) f = for-none 31 n (term-free l ∪ term-free r) ties f
+by-side n l r ties false side f = for-none 31 n (term-free l ∪ term-free r) ties f
 
 mutual
   unfolding need hard demand-below demand-broken gather
@@ -86,9 +89,9 @@ mutual
       at-none _ (unasked asked [] refl) (one _ (met-condition true b _ (p .0) (covers-bound (need b) (named s) ties f (slot-out s (need b) (p .1)))))
   met-condition asked (Comparison n o l r) ties h f =
       let p = or-none (term-hard l) (term-hard r) h in
-      let own = owes (tied o l r) (term-free l) (term-free r) in
+      let own = pick (is-equality o) (owes (equality l r) (term-free l) (term-free r)) (term-free l ∪ term-free r) in
       let g = covers-right own (term-need l ∪ term-need r) ties f in
-      at-none _ (unasked asked _ (by-side n l r ties (tied o l r) (covers-left own (term-need l ∪ term-need r) ties f)))
+      at-none _ (unasked asked _ (by-side n l r ties (is-equality o) (equality l r) (covers-left own (term-need l ∪ term-need r) ties f)))
       (two _ _ (met-operand l ties (p .0) (covers-left (term-need l) (term-need r) ties g)) (met-operand r ties (p .1) (covers-right (term-need l) (term-need r) ties g)))
   met-condition asked (Predicate n a l) ties h f = at-none _ (unasked asked [] refl) refl
   met-condition asked (Refine n b l) ties h f = at-none _ (unasked asked [] refl) (one _ (met-condition false b ties h f))

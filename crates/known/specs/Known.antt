@@ -8,12 +8,13 @@ use Rattle.paper.specs.declared.NodeNo.{NodeNo}
 use Rattle.paper.specs.declared.Node.{Node}
 use Rattle.paper.specs.declared.Node.the-variants as node
 use Rattle.paper.specs.declared.Slot.{Slot}
-use Rattle.paper.specs.declared.Tied.{Tied}
+use Rattle.paper.specs.declared.Equality.{Equality}
+use Rattle.paper.specs.Record.{pick}
 use Rattle.paper.specs.Sets.{Set, none, only, _∪_, _∖_, outside}
 use Rattle.paper.specs.Tree.{Condition, Term, Arguments, Items, Binders, Tree, a-condition, a-term, arguments, items, binders, an-end, as-term, as-binders}
 use Rattle.paper.specs.Tree.Arguments.{no-argument, argument}
 use Rattle.paper.specs.Tree.Items.{no-item, item}
-use Rattle.paper.specs.FreeAndRestricted.{named, is-sigil, binder-names, free, term-free, bare, about, tied, tied-name, restricted, holds-sigil, term-sigil}
+use Rattle.paper.specs.FreeAndRestricted.{named, is-sigil, binder-names, free, term-free, bare, about, equality, tied-name, is-equality, restricted, holds-sigil, term-sigil}
 use Rattle.paper.specs.Scoping.{binder-sigil}
 use Rattle.known.specs.Needs.{slot-in, binder-in, has-some, owes, need, term-need, hard, term-hard, computed, reckoned, broken, term-broken, binds, term-binds, unclosed, term-unclosed}
 use Rattle.known.specs.declared.Parts.{Parts}
@@ -264,8 +265,12 @@ arith-known a b =
       computed = true;
     }
 
-unfoldable pub compared : Tied → Known → Known → Known
-compared side a b = both a b (tied-name side) (owes side (a .free) (b .free) ∪ (a .need ∪ b .need))
+-- a comparison that is no equality restricts nothing and owes all its free names
+unfoldable pub compared : Known → Known → Known
+compared a b = both a b none ((a .free ∪ b .free) ∪ (a .need ∪ b .need))
+
+unfoldable pub equated : Equality → Known → Known → Known
+equated side a b = both a b (tied-name side) (owes side (a .free) (b .free) ∪ (a .need ∪ b .need))
 
 -- how the facts of a node come from those of its parts
 pub data Way : Type 0 where
@@ -292,7 +297,7 @@ module _ (t : ℕ → Tree) where
   way (node.Previous b w) = over (λ a. a)
   way (node.Since l r w) = between since-known
   way (node.Exists s y b) = over (λ a. bound a s)
-  way (node.Comparison o l r) = between (compared (tied o (term l) (term r)))
+  way (node.Comparison o l r) = between (pick (is-equality o) (equated (equality (term l) (term r))) compared)
   way (node.Predicate a l) = over (λ a. searched a (a .restricted))
   way (node.Refine b l) = between refined
   way (node.Tp s) = alone (naming (named s) (is-sigil s) true)

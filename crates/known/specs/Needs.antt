@@ -3,8 +3,9 @@
 use mathlib.Core.Bool.{Bool, true, false, not, _||_, _&&_}
 use Rattle.paper.specs.declared.Slot.{Slot}
 use Rattle.paper.specs.declared.Slot.the-variants as slot
-use Rattle.paper.specs.declared.Tied.{Tied}
-use Rattle.paper.specs.declared.Tied.the-variants.{Left, Right, Neither}
+use Rattle.paper.specs.declared.Equality.{Equality}
+use Rattle.paper.specs.declared.Equality.the-variants.{Left, Right, Nothing}
+use Rattle.paper.specs.Record.{pick}
 use Rattle.paper.specs.Sets.{Set, none, _∪_, _∖_, outside, all-below}
 use Rattle.paper.specs.Tree.{Condition, Term, Arguments, Items, Binders}
 use Rattle.paper.specs.Tree.Condition.{And, Or, Not, Past, Since, Exists, Comparison, Predicate, Refine, Tp, Opaque}
@@ -12,7 +13,7 @@ use Rattle.paper.specs.Tree.Term.{Var, Wildcard, Value, Sigil, Array, Arith, Su
 use Rattle.paper.specs.Tree.Arguments.{no-argument, argument}
 use Rattle.paper.specs.Tree.Items.{no-item, item}
 use Rattle.paper.specs.Tree.Binders.{no-binder, binder}
-use Rattle.paper.specs.FreeAndRestricted.{named, is-sigil, binder-names, free, term-free, restricted, tied, holds-sigil}
+use Rattle.paper.specs.FreeAndRestricted.{named, is-sigil, binder-names, free, term-free, restricted, equality, is-equality, holds-sigil}
 use Rattle.paper.specs.Scoping.{binder-sigil}
 
 -- ---- binders
@@ -37,11 +38,11 @@ has-some s = not (has-none s)
 
 -- ---- demands: 30 to 32
 
--- what a comparison owes, from the free names of its sides: those of the side that ties the other, or all
-unfoldable pub owes : Tied → Set → Set → Set
+-- what an equality owes, from the free names of its sides: those of the side that ties the other, or all
+unfoldable pub owes : Equality → Set → Set → Set
 owes (Left x) left right = right
 owes (Right x) left right = left
-owes Neither left right = left ∪ right
+owes (Nothing why) left right = left ∪ right
 
 -- NEED: the names that may be unmet below where nothing is tied above. A name that is tied above is met, and so is one that is tied on the way down.
 unfoldable mutual
@@ -52,7 +53,7 @@ unfoldable mutual
   need (Past n k b w) = need b
   need (Since n l r w) = need r ∪ ((need l ∪ free l) ∖ restricted r)
   need (Exists n s y b) = need b ∖ named s
-  need (Comparison n o l r) = owes (tied o l r) (term-free l) (term-free r) ∪ (term-need l ∪ term-need r)
+  need (Comparison n o l r) = pick (is-equality o) (owes (equality l r) (term-free l) (term-free r)) (term-free l ∪ term-free r) ∪ (term-need l ∪ term-need r)
   need (Predicate n a l) = none
   need (Refine n b l) = need b
   need (Tp n s) = none

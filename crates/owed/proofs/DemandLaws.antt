@@ -4,14 +4,16 @@ use mathlib.Core.Path.{_≡_, refl, sym, ap, ap₂, _∙_, subst}
 use mathlib.Core.Bool.{Bool, true, false}
 use mathlib.Core.List.{List, [], _∷_, _++_, append-nil}
 use Prim.Native.Nat.{ℕ}
+use borrow.Author.Tests.{eq-eqb, ne-eqb}
 use types.Run.{OneOf, miss}
 use denote.Enum.Declared.{tagOf}
 use Rattle.paper.specs.declared.NodeNo.{NodeNo}
 use Rattle.paper.specs.declared.NameNo.{NameNo}
 use Rattle.paper.specs.declared.Finding.{Finding}
 use Rattle.paper.specs.declared.Slot.{Slot}
-use Rattle.paper.specs.declared.Tied.{Tied}
-use Rattle.paper.specs.declared.Tied.the-variants.{Left, Right, Neither}
+use Rattle.paper.specs.declared.Reason.{Reason}
+use Rattle.paper.specs.declared.Equality.{Equality}
+use Rattle.paper.specs.declared.Equality.the-variants.{Left, Right, Nothing}
 use Rattle.paper.specs.declared.Node.{Node}
 use Rattle.paper.specs.declared.Node.the-variants as node
 use Rattle.paper.specs.Record.{pick, node-no}
@@ -22,9 +24,9 @@ use Rattle.paper.specs.Tree.{Condition as cond}
 use Rattle.known.specs.Needs.{met}
 use Rattle.known.specs.Known.{known-of}
 use Rattle.known.proofs.MetLaws.{met-body, met-term}
-use Rattle.paper.specs.FreeAndRestricted.{named, binder-names, free, term-free, restricted, tied, holds-sigil}
+use Rattle.paper.specs.FreeAndRestricted.{named, binder-names, free, term-free, restricted, equality, is-equality, holds-sigil}
 use Rattle.paper.specs.Places.{Spot, condition, operand, Place, asked-at, for-names, gather, findings, found}
-use Rattle.paper.specs.Demands.{comparison-broken, demand-below, demand-broken, demands-part}
+use Rattle.paper.specs.Demands.{equality-broken, comparison-broken, demand-below, demand-broken, demands-part}
 use Rattle.paper.proofs.Walks.{found-at}
 use Rattle.paper.proofs.Exact.{extent-pos, demand-shrinks}
 use Rattle.trees.specs.Trees.{tree-of, condition-of, term-of, binders-of, is-condition, is-term}
@@ -45,7 +47,7 @@ use Rattle.views.proofs.SeenLaws.{OwingArm, owing-told}
 use Rattle.writes.specs.Written.{Room, Wrote}
 use native.Mathlib.Nat.{le-refl}
 use Rattle.writes.proofs.WriteLaws.{wrote-then, wrote-is, room-is, room-first, room-rest}
-use Rattle.owed.specs.Demanded.{place-below, FirstAsked, demanded, owed, owed-compared}
+use Rattle.owed.specs.Demanded.{place-below, FirstAsked, demanded, owed, owed-compared, owed-equated}
 
 -- ---- from a place on
 
@@ -177,41 +179,56 @@ module _ (ties : Set) {columns : List ℕ} {i : ℕ} where
 
 -- ---- a condition's own entries
 
--- what the definitions say of a comparison's sides is what the code is given
-compared : (n : NodeNo) (l r : Term) (ties : Set) (s : Tied) {side : Tied} {left right : Set} → side ≡ s → left ≡ term-free l → right ≡ term-free r
-    → gather findings (comparison-broken n l r ties s) ≡ owed-compared n side left right ties
-unfolding owed-compared gather
-compared n l r ties s e p q = rw (e, p, q) (by-side s)
-  where
-    by-side : (s : Tied) → gather findings (comparison-broken n l r ties s) ≡ owed-compared n s (term-free l) (term-free r) ties
-    by-side (Left x) = append-nil _
-    by-side (Right x) = append-nil _
-    by-side Neither = append-nil _
-
--- it is one rule, by the side that is tied
+-- it is one rule, by whether it is an equality and what that ties
 module _ (n : NodeNo) (left right ties : Set) where
-  pub compared-left : {side : Tied} {x : NameNo} → side ≡ Left x → owed-compared n side left right ties ≡ findings (for-names 30 n (right ∖ ties))
+  pub compared-sides : {both : Set} → both ≡ left ∪ right → owed-compared n left right ties ≡ findings (for-names 31 n (both ∖ ties))
   unfolding owed-compared
-  compared-left e = rw e
+  compared-sides d = rw d
 
-  pub compared-right : {side : Tied} {x : NameNo} → side ≡ Right x → owed-compared n side left right ties ≡ findings (for-names 30 n (left ∖ ties))
-  unfolding owed-compared
-  compared-right e = rw e
+  pub equated-left : {side : Equality} {x : NameNo} → side ≡ Left x → owed-equated n side left right ties ≡ findings (for-names 30 n (right ∖ ties))
+  unfolding owed-equated
+  equated-left e = rw e
 
-  pub compared-neither : {side : Tied} {both : Set} → both ≡ left ∪ right → side ≡ Neither
-      → owed-compared n side left right ties ≡ findings (for-names 31 n (both ∖ ties))
-  unfolding owed-compared
-  compared-neither d e = rw (e, d)
+  pub equated-right : {side : Equality} {x : NameNo} → side ≡ Right x → owed-equated n side left right ties ≡ findings (for-names 30 n (left ∖ ties))
+  unfolding owed-equated
+  equated-right e = rw e
+
+  pub equated-nothing : {side : Equality} {why : Reason} → side ≡ Nothing why → owed-equated n side left right ties ≡ owed-compared n left right ties
+  unfolding owed-equated
+  equated-nothing e = rw e
+
+-- what the definitions say of a comparison's sides is what the code is given
+abbrev own-entries : NodeNo → ℕ → Term → Term → Set → List Finding
+own-entries n o l r ties = gather findings (comparison-broken n o l r ties ∷ [])
+
+module _ (n : NodeNo) (o : ℕ) (l r : Term) (ties : Set) {left right : Set} (p : left ≡ term-free l) (q : right ≡ term-free r) where
+  equated : is-equality o ≡ true → {side : Equality} → side ≡ equality l r → own-entries n o l r ties ≡ owed-equated n side left right ties
+  unfolding owed-equated owed-compared gather
+  equated b e = rw (b, e, p, q) (by-side (equality l r))
+    where
+      by-side : (s : Equality) → gather findings (equality-broken n l r ties s ∷ []) ≡ owed-equated n s (term-free l) (term-free r) ties
+      by-side (Left x) = append-nil _
+      by-side (Right x) = append-nil _
+      by-side (Nothing why) = append-nil _
+
+  compared : is-equality o ≡ false → own-entries n o l r ties ≡ owed-compared n left right ties
+  unfolding owed-compared gather
+  compared b = rw (b, p, q) (append-nil _)
 
 module _ (ties : Set) {columns : List ℕ} {i : ℕ} where
   in-owed : {m : Node} → Arm columns i m → owed (condition-of columns i) ties ≡ owed (as-condition (planted (tree-of columns) (node-no i) m)) ties
   in-owed a = ap (λ (t : Tree). owed (as-condition t) ties) (a .tree)
 
-  pub owed-comparison : {side : Tied} {left right : Set} {o : ℕ} {l r : NodeNo} → Arm columns i (node.Comparison o l r)
-      → side ≡ tied o (term-of columns (l .0)) (term-of columns (r .0)) → left ≡ term-free (term-of columns (l .0)) → right ≡ term-free (term-of columns (r .0))
-      → owed (condition-of columns i) ties ≡ owed-compared (node-no i) side left right ties
-  unfolding planted as-condition owed demand-broken
-  owed-comparison a s p q = in-owed a ∙ compared _ _ _ _ _ s p q
+  module _ {left right : Set} {o : ℕ} {l r : NodeNo} (a : Arm columns i (node.Comparison o l r)) (p : left ≡ term-free (term-of columns (l .0)))
+      (q : right ≡ term-free (term-of columns (r .0))) where
+    pub owed-equality : o ≡ 0 → {side : Equality} → side ≡ equality (term-of columns (l .0)) (term-of columns (r .0))
+        → owed (condition-of columns i) ties ≡ owed-equated (node-no i) side left right ties
+    unfolding planted as-condition owed demand-broken
+    owed-equality h e = in-owed a ∙ equated _ o _ _ _ p q (eq-eqb o 0 h) e
+
+    pub owed-other : (o ≡ 0 → ⊥) → owed (condition-of columns i) ties ≡ owed-compared (node-no i) left right ties
+    unfolding planted as-condition owed demand-broken
+    owed-other h = in-owed a ∙ compared _ o _ _ _ p q (ne-eqb o 0 h)
 
   pub owed-not : {needs : Set} {b : NodeNo} → Arm columns i (node.Not b) → needs ≡ free (condition-of columns (b .0))
       → owed (condition-of columns i) ties ≡ findings (for-names 31 (node-no i) (needs ∖ ties))

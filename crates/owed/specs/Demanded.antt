@@ -6,8 +6,8 @@ use Prim.Native.Nat.{ℕ}
 use lib.ListN.{getD}
 use Rattle.paper.specs.declared.NodeNo.{NodeNo}
 use Rattle.paper.specs.declared.Finding.{Finding}
-use Rattle.paper.specs.declared.Tied.{Tied}
-use Rattle.paper.specs.declared.Tied.the-variants.{Left, Right, Neither}
+use Rattle.paper.specs.declared.Equality.{Equality}
+use Rattle.paper.specs.declared.Equality.the-variants.{Left, Right, Nothing}
 use Rattle.paper.specs.Sets.{Set, _∪_, _∖_}
 use Rattle.paper.specs.Tree.{Condition}
 use Rattle.paper.specs.Places.{Spot, Place, condition, asked-at, for-names, gather, findings, found}
@@ -29,8 +29,12 @@ demanded asked s tied = found demand-below demand-broken (record { spot = s; nam
 unfoldable pub owed : Condition → Set → List Finding
 owed c tied = gather findings (demand-broken (asked-at (condition c) tied))
 
--- a comparison's own entries: by the side that it ties, from the free names of both sides
-unfoldable pub owed-compared : NodeNo → Tied → Set → Set → Set → List Finding
-owed-compared n (Left x) left right tied = findings (for-names 30 n (right ∖ tied))
-owed-compared n (Right x) left right tied = findings (for-names 30 n (left ∖ tied))
-owed-compared n Neither left right tied = findings (for-names 31 n ((left ∪ right) ∖ tied))
+-- a comparison's own entries where it ties nothing, from the free names of both sides
+unfoldable pub owed-compared : NodeNo → Set → Set → Set → List Finding
+owed-compared n left right tied = findings (for-names 31 n ((left ∪ right) ∖ tied))
+
+-- an equality's, by what it ties
+unfoldable pub owed-equated : NodeNo → Equality → Set → Set → Set → List Finding
+owed-equated n (Left x) left right tied = findings (for-names 30 n (right ∖ tied))
+owed-equated n (Right x) left right tied = findings (for-names 30 n (left ∖ tied))
+owed-equated n (Nothing why) left right tied = owed-compared n left right tied

@@ -1,7 +1,7 @@
 // What a condition itself owes: its entries of 30 to 32, and what is tied and asked at the places below it.
 use names::Names;
+use paper::Equality;
 use paper::NodeNo;
-use paper::Tied;
 use rows::read::collect_free;
 use rows::read::collect_range_restricted;
 use rows::read::collect_term_var;
@@ -20,7 +20,7 @@ ghost use Rattle.record.specs.Stored.{Has};
 ghost use Rattle.known.specs.Rows.{Noted};
 ghost use Rattle.trees.specs.Trees.{condition-of};
 ghost use Rattle.writes.specs.Written.{Room, Wrote};
-ghost use Rattle.owed.specs.Demanded.{place-below, FirstAsked, owed, owed-compared};
+ghost use Rattle.owed.specs.Demanded.{place-below, FirstAsked, owed, owed-compared, owed-equated};
 
 // A rule's entry at a node for each name that must be tied and is not.
 fn reject_unmet_var(
@@ -38,27 +38,39 @@ fn reject_unmet_var(
     emit(out, at, rule, n, unmet)
 }
 
-// The entries of a comparison itself, from the free names of its sides: 30 for the value that ties
-// a variable, 31 where none is tied.
-fn check_comparison_demands(
+// The entries of a comparison that ties nothing: 31 for the free names of both sides.
+fn reject_unmet_sides(
     n: NodeNo,
-    side: Tied,
     left: Names,
     right: Names,
     tied: Names,
     out: &mut [u32],
     at: usize,
 ) -> usize
-    requires { ⌜ Room (owed-compared n side (mem left) (mem right) (mem tied)) at ⌝ }
-    ensures { λ r. ⌜ Wrote (owed-compared n side (mem left) (mem right) (mem tied)) at r (now (out .entry)) (now (out .exit)) ⌝ }
+    requires { ⌜ Room (owed-compared n (mem left) (mem right) (mem tied)) at ⌝ }
+    ensures { λ r. ⌜ Wrote (owed-compared n (mem left) (mem right) (mem tied)) at r (now (out .entry)) (now (out .exit)) ⌝ }
+{
+    let both = names::union(left, right);
+    reject_unmet_var(n, 31, both, tied, out, at)
+}
+
+// The entries of an equality itself, from the free names of its sides: 30 for the value that ties a variable.
+fn check_equality_demands(
+    n: NodeNo,
+    side: Equality,
+    left: Names,
+    right: Names,
+    tied: Names,
+    out: &mut [u32],
+    at: usize,
+) -> usize
+    requires { ⌜ Room (owed-equated n side (mem left) (mem right) (mem tied)) at ⌝ }
+    ensures { λ r. ⌜ Wrote (owed-equated n side (mem left) (mem right) (mem tied)) at r (now (out .entry)) (now (out .exit)) ⌝ }
 {
     match side {
-        Tied::Left(_) => reject_unmet_var(n, 30, right, tied, out, at),
-        Tied::Right(_) => reject_unmet_var(n, 30, left, tied, out, at),
-        Tied::Neither => {
-            let both = names::union(left, right);
-            reject_unmet_var(n, 31, both, tied, out, at)
-        }
+        Equality::Left(_) => reject_unmet_var(n, 30, right, tied, out, at),
+        Equality::Right(_) => reject_unmet_var(n, 30, left, tied, out, at),
+        Equality::Nothing(_) => reject_unmet_sides(n, left, right, tied, out, at),
     }
 }
 
@@ -77,10 +89,16 @@ fn check_conjunct_demands(
 {
     match owing_at(columns, i) {
         Owing::Comparison(op, l, r) => {
-            let side = eq_restricted_var(columns, op, l, r);
-            let left = collect_term_var(columns, rows, l);
-            let right = collect_term_var(columns, rows, r);
-            check_comparison_demands(i, side, left, right, tied, out, at)
+            if op == 0 {
+                let side = eq_restricted_var(columns, l, r);
+                let left = collect_term_var(columns, rows, l);
+                let right = collect_term_var(columns, rows, r);
+                check_equality_demands(i, side, left, right, tied, out, at)
+            } else {
+                let left = collect_term_var(columns, rows, l);
+                let right = collect_term_var(columns, rows, r);
+                reject_unmet_sides(i, left, right, tied, out, at)
+            }
         }
         Owing::Not(b) => {
             let needs = collect_free(columns, rows, b);

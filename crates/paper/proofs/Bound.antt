@@ -14,8 +14,6 @@ use Rattle.paper.specs.declared.NodeNo.{NodeNo}
 use Rattle.paper.specs.declared.Slot.{Slot}
 use Rattle.paper.specs.declared.Slot.the-variants as slot
 use Rattle.paper.specs.declared.Finding.{Finding}
-use Rattle.paper.specs.declared.Tied.{Tied}
-use Rattle.paper.specs.declared.Tied.the-variants.{Left, Right, Neither}
 use Rattle.paper.specs.Record.{pick}
 use Rattle.paper.specs.Sets.{Set, none, only, _∪_, _∩_, _∖_, below, outside, members}
 use Rattle.paper.specs.TurnedAway.{Contents}
@@ -25,12 +23,13 @@ use Rattle.paper.specs.Tree.Term.{Var, Wildcard, Value, Sigil, Array, Ar
 use Rattle.paper.specs.Tree.Arguments.{no-argument, argument}
 use Rattle.paper.specs.Tree.Items.{no-item, item}
 use Rattle.paper.specs.Tree.Binders.{no-binder, binder}
-use Rattle.paper.specs.FreeAndRestricted.{named, is-sigil, binder-names, free, term-free, tied, restricted, holds-sigil}
+use Rattle.paper.specs.FreeAndRestricted.{named, is-sigil, binder-names, free, term-free, restricted, holds-sigil}
 use Rattle.paper.specs.Places.{Spot, condition, operand, searched, searched-arguments, searched-items, Place, asked-at}
 use Rattle.paper.specs.Places.{Cell, Broken, for-names, at-cells, gather, at-cell, findings, found}
 use Rattle.paper.specs.Scoping.{reserved, binder-sigil, cell-of, cells, scope-below, scope-broken, aggregate-rules, scoping-part}
 use Rattle.paper.specs.Demands.{closedness-broken, closedness-part, comparison-broken, demand-below, demand-broken, demands-part}
 use Rattle.paper.specs.TheList.{the-list}
+use Rattle.paper.proofs.Equalities.{broken-cases}
 use Rattle.paper.proofs.RestrictedFree.{Within, none-within, both-within, minus-within}
 use Rattle.paper.proofs.Walks.{picked, All, extent, found-at}
 use Rattle.paper.proofs.Exact.{at, extent-pos, scope-shrinks, demand-shrinks}
@@ -195,12 +194,10 @@ module _ (N : ℕ) (words : Set) where
         cells-most 27 (outside (restricted b)) (cells l),
       )
 
-  comparison-fits : (n : NodeNo) (l r : Term) (ties : Set) (side : Tied) → SaneTerm 512 N l → SaneTerm 512 N r
-      → add-up entries (comparison-broken n l r ties side) ≤ N
-  comparison-fits n l r ties (Left x) g h = omega (arith, less-most N 30 n (term-free r) ties (term-within 512 N r h))
-  comparison-fits n l r ties (Right x) g h = omega (arith, less-most N 30 n (term-free l) ties (term-within 512 N l g))
-  comparison-fits n l r ties Neither g h =
-      omega (arith, less-most N 31 n (term-free l ∪ term-free r) ties (both-within (term-free l) (term-free r) _ (term-within 512 N l g) (term-within 512 N r h)))
+  comparison-fits : (n : NodeNo) (o : ℕ) (l r : Term) (ties : Set) → SaneTerm 512 N l → SaneTerm 512 N r → entries (comparison-broken n o l r ties) ≤ N
+  comparison-fits n o l r ties g h =
+      broken-cases (λ b. entries b ≤ N) n o l r ties (less-most N 30 n (term-free r) ties (term-within 512 N r h)) (less-most N 30 n (term-free l) ties (term-within 512 N l g))
+      (less-most N 31 n (term-free l ∪ term-free r) ties (both-within (term-free l) (term-free r) _ (term-within 512 N l g) (term-within 512 N r h)))
 
   mutual
     unfolding scope-below scope-broken demand-below demand-broken weigh
@@ -233,7 +230,7 @@ module _ (N : ℕ) (words : Set) where
         ))
     both-fit (Comparison n o l r) h =
         both-by _ _
-        (λ s t. omega (arith, comparison-fits n l r t (tied o l r) (h .1) (h .2), operand-fits l (h .1) s t true, operand-fits r (h .2) s t true))
+        (λ s t. omega (arith, comparison-fits n o l r t (h .1) (h .2), operand-fits l (h .1) s t true, operand-fits r (h .2) s t true))
     both-fit (Predicate n a l) h = both-by _ _ (λ s t. omega (arith, arguments-fit l s))
     both-fit (Refine n b l) h = both-by _ _ (λ s t. omega (arith, both-fit b (h .1) s t false))
     both-fit (Tp n v) h = both-by _ _ (λ s t. omega (arith, slot-most 22 n v (named v ∩ words) (meet-within (named v) words)))

@@ -23,7 +23,7 @@ use Rattle.paper.specs.TurnedAway.{add-node, read-node, read-end, read-b
 use Rattle.paper.specs.Tree.{as-condition, as-term, as-arguments, as-items, as-binders, planted, trees, tree-at, root-no, root, size, term-size, arguments-size}
 use Rattle.paper.specs.Tree.{items-size, binders-size}
 use Rattle.paper.specs.FreeAndRestricted.{named, is-sigil, binder-names, free, term-free, arguments-free, items-free, has-wildcard, items-wildcard, bare, about}
-use Rattle.paper.specs.FreeAndRestricted.{ties, equality, tied, tied-name, direct, restricted, holds-sigil, term-sigil, arguments-sigil, items-sigil}
+use Rattle.paper.specs.FreeAndRestricted.{unless, by-bare, equality, tied-name, direct, restricted, holds-sigil, term-sigil, arguments-sigil, items-sigil}
 use Rattle.paper.specs.Places.{gather, at-cell, findings, spot-size, found-within, found}
 use Rattle.paper.specs.Scoping.{is-word, is-reserved, reserved, binder-sigil, cell-of, cells, scope-below, scope-broken, scoping-part}
 use Rattle.paper.specs.Demands.{closedness-broken, closedness-part, demands-part, demand-below, demand-broken, has-arith, operand-arith}
@@ -132,7 +132,7 @@ case-t = written ("x" ∷ []) (0x22 ∷ 0x01 ∷ 0x00 ∷ 0x22 ∷ 0x02 ∷ 0x00
 
 -- every definition opened, for what is computed
 unfoldable pub computed : Unit {0}
-unfolding none only _∪_ _∩_ _∖_ outside members zeros name-rest is-name precedes fits field-bytes body-length two-bytes value values slot-of kinds node-kind announced body-bytes ascii verdict nothing-read in-order full refer in-range check check-all check-depth read-format last-name read-name add-node read-node all-below read-end read-body read-record read-on read as-condition as-term as-arguments as-items as-binders planted trees tree-at root size term-size arguments-size items-size binders-size named is-sigil binder-names free term-free arguments-free items-free has-wildcard items-wildcard bare about ties equality tied tied-name direct restricted holds-sigil term-sigil arguments-sigil items-sigil gather at-cell findings spot-size found-within found is-word is-reserved reserved binder-sigil cell-of cells scope-below scope-broken closedness-broken demand-below demand-broken has-arith operand-arith root-no scoping-part closedness-part demands-part the-list name-or-255 pack packed arithmetic-of arithmetic listing-of list buffer-of list-buffer
+unfolding none only _∪_ _∩_ _∖_ outside members zeros name-rest is-name precedes fits field-bytes body-length two-bytes value values slot-of kinds node-kind announced body-bytes ascii verdict nothing-read in-order full refer in-range check check-all check-depth read-format last-name read-name add-node read-node all-below read-end read-body read-record read-on read as-condition as-term as-arguments as-items as-binders planted trees tree-at root size term-size arguments-size items-size binders-size named is-sigil binder-names free term-free arguments-free items-free has-wildcard items-wildcard bare about unless by-bare equality tied-name direct restricted holds-sigil term-sigil arguments-sigil items-sigil gather at-cell findings spot-size found-within found is-word is-reserved reserved binder-sigil cell-of cells scope-below scope-broken closedness-broken demand-below demand-broken has-arith operand-arith root-no scoping-part closedness-part demands-part the-list name-or-255 pack packed arithmetic-of arithmetic listing-of list buffer-of list-buffer
 computed = tt
 
 -- what the list answers where a buffer of six entries is lent, what then stands in the buffer, and what the arithmetic test answers

@@ -5,8 +5,6 @@ use mathlib.Core.List.{List, [], _∷_, map, map-map, List·Memᴰ·not-nil, Mem
 use mathlib.Core.Logic.{inr}
 use Prim.Native.Nat.{ℕ, suc, _<_, _≤_}
 use native.Mathlib.Omega.{arith}
-use Rattle.paper.specs.declared.Tied.{Tied}
-use Rattle.paper.specs.declared.Tied.the-variants.{Left, Right, Neither}
 use Rattle.paper.specs.Record.{pick}
 use Rattle.paper.specs.Sets.{Set, none}
 use Rattle.paper.specs.TurnedAway.{Contents}
@@ -15,11 +13,12 @@ use Rattle.paper.specs.Tree.Condition.{And, Or, Not, Past, Since, Exists
 use Rattle.paper.specs.Tree.Term.{Var, Wildcard, Value, Sigil, Array, Arith, Sum, Count, AggregateCall}
 use Rattle.paper.specs.Tree.Arguments.{no-argument, argument}
 use Rattle.paper.specs.Tree.Items.{no-item, item}
-use Rattle.paper.specs.FreeAndRestricted.{is-sigil, tied, holds-sigil}
+use Rattle.paper.specs.FreeAndRestricted.{is-sigil, holds-sigil}
 use Rattle.paper.specs.Places.{Spot, condition, operand, searched, searched-arguments, searched-items, Place, asked-at}
 use Rattle.paper.specs.Places.{Broken, Unmet, Located, Earlier, Precedes, Exactly, findings, spot-size, found}
 use Rattle.paper.specs.Scoping.{reserved, binder-sigil, scope-below, scope-broken, ScopingUnmet, scoping-part}
-use Rattle.paper.specs.Demands.{closedness-broken, ClosednessUnmet, closedness-part, comparison-broken, demand-below, demand-broken, DemandUnmet, demands-part}
+use Rattle.paper.specs.Demands.{closedness-broken, ClosednessUnmet, closedness-part, demand-below, demand-broken, DemandUnmet, demands-part}
+use Rattle.paper.proofs.Equalities.{broken-cases}
 use Rattle.paper.proofs.Ascending.{asc-map}
 use Rattle.paper.proofs.Entries.{entries, entries-get, entries-put, entries-asc, entries-findings, ByRule, rule-of}
 use Rattle.paper.proofs.Walks.{here, picked, All, all-map, all-unless, all-at, extent, found-exactly}
@@ -190,12 +189,7 @@ demand-rising-at (condition (Not n b)) s true = omega arith
 demand-rising-at (condition (Past n k b w)) s true = tt
 demand-rising-at (condition (Since n l r w)) s true = omega arith
 demand-rising-at (condition (Exists n v y b)) s true = tt
-demand-rising-at (condition (Comparison n o l r)) s true = comparison-rising (tied o l r)
-  where
-    comparison-rising : (t : Tied) → Rising 30 32 (comparison-broken n l r s t)
-    comparison-rising (Left x) = omega arith
-    comparison-rising (Right x) = omega arith
-    comparison-rising Neither = omega arith
+demand-rising-at (condition (Comparison n o l r)) s true = broken-cases (λ b. Rising 30 32 (b ∷ [])) n o l r s (omega arith) (omega arith) (omega arith)
 demand-rising-at (condition (Predicate n y l)) s true = tt
 demand-rising-at (condition (Refine n b l)) s true = tt
 demand-rising-at (condition (Tp n v)) s true = tt

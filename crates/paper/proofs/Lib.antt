@@ -1,6 +1,8 @@
 -- What is true of the definitions alone.
 pub mod Cases
 pub mod SetLaws
+pub mod Equalities
+pub mod EqualityBefore
 pub mod RestrictedFree
 pub mod Runs
 pub mod Ascending

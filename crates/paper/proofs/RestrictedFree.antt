@@ -1,20 +1,22 @@
 -- Every restricted name is free (document 01, 'Free and restricted names'):
 --     restricted-free    what a condition restricts is free in it
 -- Assumes nothing.
-use mathlib.Core.Path.{_≡_, refl, sym, ap, _∙_}
+use mathlib.Core.Path.{_≡_, refl, sym, ap, _∙_, subst}
 use mathlib.Core.Bool.{Bool, true, false, not, _&&_, _||_, true≢false}
 use Prim.Native.Nat.{ℕ}
-use lib.Dec.{eqb}
 use Rattle.paper.specs.declared.Subject.{Subject}
-use Rattle.paper.specs.declared.Subject.the-variants.{Name, NoName}
-use Rattle.paper.specs.declared.Tied.the-variants.{Neither}
-use Rattle.paper.specs.Record.{pick}
-use Rattle.paper.specs.Sets.{Set, none, _∪_, _∖_}
+use Rattle.paper.specs.declared.Subject.the-variants.{Name}
+use Rattle.paper.specs.declared.NameNo.{NameNo}
+use Rattle.paper.specs.declared.Equality.{Equality}
+use Rattle.paper.specs.declared.Equality.the-variants.{Left, Right, Nothing}
+use Rattle.paper.specs.Sets.{Set, none, only, _∪_, _∖_}
 use Rattle.paper.specs.Tree.{Condition, Term, Arguments}
 use Rattle.paper.specs.Tree.Condition.{And, Or, Not, Past, Since, Exists, Comparison, Predicate, Refine, Tp, Opaque}
 use Rattle.paper.specs.Tree.Term.{Var, Wildcard, Value, Sigil, Array, Arith, Sum, Count, AggregateCall}
 use Rattle.paper.specs.Tree.Arguments.{no-argument, argument}
-use Rattle.paper.specs.FreeAndRestricted.{free, term-free, arguments-free, bare, about, ties, equality, tied, tied-name, direct, restricted}
+use Rattle.paper.specs.FreeAndRestricted.{free, term-free, arguments-free, bare, about, equality, tied-name, is-equality, direct, restricted}
+use Rattle.paper.proofs.Walks.{picked}
+use Rattle.paper.proofs.Equalities.{Means, means}
 
 -- ---- sets within sets
 
@@ -82,20 +84,18 @@ direct-free (argument n f t l) =
     (right-within _ (term-free t) (arguments-free l) (direct-free l))
 
 -- a tied name is a bare variable of one side
-tied-free : (o : ℕ) (l r : Term) → Within (tied-name (tied o l r)) (term-free l ∪ term-free r)
-unfolding tied equality tied-name about
-tied-free o l r =
-    go (eqb o 0) (bare l) (bare r) (ties l) (ties r) (left-within _ (term-free l) (term-free r) (bare-free l)) (right-within _ (term-free l) (term-free r) (bare-free r))
+named-free : (t : Term) {x : NameNo} → bare t ≡ Name x → Within (only (x .0)) (term-free t)
+unfolding about
+named-free t e = subst (λ (s : Subject). Within (about s) (term-free t)) e (bare-free t)
+
+tied-free : (l r : Term) → Within (tied-name (equality l r)) (term-free l ∪ term-free r)
+unfolding tied-name
+tied-free l r = go (equality l r) (means l r)
   where
-    go : (b : Bool) (p q : Subject) (s t : Bool) → Within (about p) (term-free l ∪ term-free r) → Within (about q) (term-free l ∪ term-free r)
-        → Within (tied-name (pick b (equality p q s t) Neither)) (term-free l ∪ term-free r)
-    go false p q s t f g = none-within _
-    go true (Name x) (Name y) s t f g = none-within _
-    go true (Name x) NoName s true f g = f
-    go true (Name x) NoName s false f g = none-within _
-    go true NoName (Name y) true t f g = g
-    go true NoName (Name y) false t f g = none-within _
-    go true NoName NoName s t f g = none-within _
+    go : (e : Equality) → Means l r e → Within (tied-name e) (term-free l ∪ term-free r)
+    go (Left x) b = left-within _ (term-free l) (term-free r) (named-free l (b .is-bare))
+    go (Right x) b = right-within _ (term-free l) (term-free r) (named-free r (b .is-bare))
+    go (Nothing why) m = none-within _
 
 -- ---- the theorem
 
@@ -108,7 +108,7 @@ restricted-free (Not n b) = none-within _
 restricted-free (Past n k b w) = restricted-free b
 restricted-free (Since n l r w) = right-within _ (free l) (free r) (restricted-free r)
 restricted-free (Exists n s y b) = less-within _ _ _ (restricted-free b)
-restricted-free (Comparison n o l r) = tied-free o l r
+restricted-free (Comparison n o l r) = picked (λ (a : Set). Within a (term-free l ∪ term-free r)) (is-equality o) _ _ (tied-free l r) (none-within _)
 restricted-free (Predicate n a l) = direct-free l
 restricted-free (Refine n b l) =
     both-within (restricted b) (direct l) _ (left-within _ (free b) (arguments-free l) (restricted-free b)) (right-within _ (free b) (arguments-free l) (direct-free l))

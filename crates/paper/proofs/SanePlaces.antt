@@ -5,20 +5,19 @@ use Prim.Native.Nat.{ℕ, _<_}
 use native.Mathlib.Omega.{arith}
 use Rattle.paper.specs.declared.NodeNo.{NodeNo}
 use Rattle.paper.specs.declared.Slot.the-variants as slot
-use Rattle.paper.specs.declared.Tied.{Tied}
-use Rattle.paper.specs.declared.Tied.the-variants.{Left, Right, Neither}
 use Rattle.paper.specs.Record.{pick}
 use Rattle.paper.specs.Sets.{Set, none}
-use Rattle.paper.specs.Tree.{Term, Binders}
+use Rattle.paper.specs.Tree.{Binders}
 use Rattle.paper.specs.Tree.Condition.{And, Or, Not, Past, Since, Exists, Comparison, Predicate, Refine, Tp, Opaque}
 use Rattle.paper.specs.Tree.Term.{Var, Wildcard, Value, Sigil, Array, Arith, Sum, Count, AggregateCall}
 use Rattle.paper.specs.Tree.Arguments.{no-argument, argument}
 use Rattle.paper.specs.Tree.Items.{no-item, item}
 use Rattle.paper.specs.Tree.Binders.{no-binder, binder}
-use Rattle.paper.specs.FreeAndRestricted.{is-sigil, tied}
+use Rattle.paper.specs.FreeAndRestricted.{is-sigil}
 use Rattle.paper.specs.Places.{Spot, condition, operand, searched, searched-arguments, searched-items, Place, Cell, Broken, itself, for-names, at-cells}
 use Rattle.paper.specs.Scoping.{binder-sigil, cell-of, cells, scope-below, scope-broken}
-use Rattle.paper.specs.Demands.{comparison-broken, demand-below, demand-broken}
+use Rattle.paper.specs.Demands.{demand-below, demand-broken}
+use Rattle.paper.proofs.Equalities.{broken-cases}
 use Rattle.paper.proofs.Walks.{All}
 use Rattle.paper.proofs.Exact.{at}
 use Rattle.paper.proofs.Sane.{Sane, SaneTerm, SaneArguments, SaneItems, SaneBinders}
@@ -104,11 +103,6 @@ module _ (N M : ℕ) where
 
   -- ---- demands
 
-  comparison-sane : (n : NodeNo) (l r : Term) (s : Set) (t : Tied) → n .0 < N → All SaneBroken (comparison-broken n l r s t)
-  comparison-sane n l r s (Left x) h = ((omega arith, h), tt)
-  comparison-sane n l r s (Right x) h = ((omega arith, h), tt)
-  comparison-sane n l r s Neither h = ((omega arith, h), tt)
-
   asked-sane : (s : Spot) (n : Set) → SaneSpot s → BothSane (demand-broken (at s n true)) (demand-below (at s n true))
   unfolding demand-broken demand-below
   asked-sane (condition (And n l r)) s h = (tt, (h .1, (h .2, tt)))
@@ -117,7 +111,7 @@ module _ (N M : ℕ) where
   asked-sane (condition (Past n k b w)) s h = (tt, (h .1, tt))
   asked-sane (condition (Since n l r w)) s h = (((omega arith, h .0), tt), (h .1, (h .2, tt)))
   asked-sane (condition (Exists n v y b)) s h = (tt, (h .2, tt))
-  asked-sane (condition (Comparison n o l r)) s h = (comparison-sane n l r s (tied o l r) (h .0), (h .1, (h .2, tt)))
+  asked-sane (condition (Comparison n o l r)) s h = ((broken-cases SaneBroken n o l r s (omega arith, h .0) (omega arith, h .0) (omega arith, h .0), tt), (h .1, (h .2, tt)))
   asked-sane (condition (Predicate n y l)) s h = (tt, tt)
   asked-sane (condition (Refine n b l)) s h = (tt, (h .1, tt))
   asked-sane (condition (Tp n v)) s h = (tt, tt)

@@ -9,8 +9,6 @@ use lib.ListN.{length}
 use Rattle.paper.specs.declared.NodeNo.{NodeNo}
 use Rattle.paper.specs.declared.Slot.the-variants as slot
 use Rattle.paper.specs.declared.Finding.{Finding}
-use Rattle.paper.specs.declared.Tied.{Tied}
-use Rattle.paper.specs.declared.Tied.the-variants.{Left, Right, Neither}
 use Rattle.paper.specs.Record.{pick}
 use Rattle.paper.specs.Sets.{Set, none}
 use Rattle.paper.specs.TurnedAway.{Contents}
@@ -20,11 +18,12 @@ use Rattle.paper.specs.Tree.Term.{Var, Wildcard, Value, Sigil, Array, Ar
 use Rattle.paper.specs.Tree.Arguments.{no-argument, argument}
 use Rattle.paper.specs.Tree.Items.{no-item, item}
 use Rattle.paper.specs.Tree.Binders.{no-binder, binder}
-use Rattle.paper.specs.FreeAndRestricted.{is-sigil, tied, holds-sigil}
+use Rattle.paper.specs.FreeAndRestricted.{is-sigil, holds-sigil}
 use Rattle.paper.specs.Places.{Spot, condition, operand, searched, searched-arguments, searched-items, Place, asked-at}
 use Rattle.paper.specs.Places.{Cell, Broken, itself, for-names, at-cells, gather, at-cell, findings, found}
 use Rattle.paper.specs.Scoping.{reserved, binder-sigil, cell-of, cells, scope-below, scope-broken, scoping-part}
 use Rattle.paper.specs.Demands.{comparison-broken, demand-below, demand-broken, demands-part}
+use Rattle.paper.proofs.Equalities.{broken-cases}
 use Rattle.paper.proofs.Walks.{picked, All, all-map, extent, found-by}
 use Rattle.paper.proofs.Exact.{at, extent-pos, scope-shrinks, demand-shrinks}
 use Rattle.paper.proofs.Weights.{weigh, weigh-term, weigh-arguments, weigh-items, weigh-binders}
@@ -176,10 +175,8 @@ module _ (t : Tally) where
     DemandCovers = (k : ℕ) → (t .most 30 k ≤ w k) × (t .most 31 k ≤ w k) × (t .most 32 k ≤ w k)
 
     module _ (covers : DemandCovers) where
-      comparison-room : (n : NodeNo) (l r : Term) (ties : Set) (side : Tied) → add-up broken-most (comparison-broken n l r ties side) ≤ w (n .0)
-      comparison-room n l r ties (Left x) = omega (arith, covers (n .0) .0)
-      comparison-room n l r ties (Right x) = omega (arith, covers (n .0) .0)
-      comparison-room n l r ties Neither = omega (arith, covers (n .0) .1)
+      comparison-room : (n : NodeNo) (o : ℕ) (l r : Term) (ties : Set) → broken-most (comparison-broken n o l r ties) ≤ w (n .0)
+      comparison-room n o l r ties = broken-cases (λ b. broken-most b ≤ w (n .0)) n o l r ties (covers (n .0) .0) (covers (n .0) .0) (covers (n .0) .1)
 
       asked-room : (s : Spot) (ties : Set) → Room (demand-broken (asked-at s ties)) (demand-below (asked-at s ties)) (weigh-spot s w)
       unfolding demand-below demand-broken weigh
@@ -189,7 +186,7 @@ module _ (t : Tally) where
       asked-room (condition (Past n k b x)) s = omega arith
       asked-room (condition (Since n l r x)) s = omega (arith, covers (n .0) .2)
       asked-room (condition (Exists n v y b)) s = omega arith
-      asked-room (condition (Comparison n o l r)) s = omega (arith, comparison-room n l r s (tied o l r))
+      asked-room (condition (Comparison n o l r)) s = omega (arith, comparison-room n o l r s)
       asked-room (condition (Predicate n y l)) s = omega arith
       asked-room (condition (Refine n b l)) s = omega arith
       asked-room (condition (Tp n v)) s = omega arith

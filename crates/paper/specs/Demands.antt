@@ -5,15 +5,15 @@ use mathlib.Core.List.{List, [], _∷_}
 use mathlib.Core.Path.{_≡_}
 use Rattle.paper.specs.declared.NodeNo.{NodeNo}
 use Rattle.paper.specs.declared.Finding.{Finding}
-use Rattle.paper.specs.declared.Tied.{Tied}
-use Rattle.paper.specs.declared.Tied.the-variants.{Left, Right, Neither}
+use Rattle.paper.specs.declared.Equality.{Equality}
+use Rattle.paper.specs.declared.Equality.the-variants.{Left, Right, Nothing}
 use Rattle.paper.specs.Record.{pick}
 use Rattle.paper.specs.Sets.{Set, none, _∪_, _∖_}
 use Rattle.paper.specs.TurnedAway.{Contents}
 use Rattle.paper.specs.Tree.{Condition, Term, root-no, root}
 use Rattle.paper.specs.Tree.Condition.{And, Or, Not, Past, Since, Exists, Comparison, Predicate, Refine, Tp, Opaque}
 use Rattle.paper.specs.Tree.Term.{Var, Wildcard, Value, Sigil, Array, Arith, Sum, Count, AggregateCall}
-use Rattle.paper.specs.FreeAndRestricted.{named, binder-names, free, term-free, tied, restricted, holds-sigil}
+use Rattle.paper.specs.FreeAndRestricted.{named, binder-names, free, term-free, equality, is-equality, restricted, holds-sigil}
 use Rattle.paper.specs.Places.{
   Spot,
   condition,
@@ -86,11 +86,18 @@ demand-below p = below-spot (p .spot) (p .names)
 
 -- ---- demands: which rules are broken at a place
 
--- "30, binding equality: the other side's free names must be tied. 31, other comparison: all its free names."
-abbrev pub comparison-broken : NodeNo → Term → Term → Set → Tied → List Broken
-comparison-broken n l r names (Left x) = for-names 30 n (term-free r ∖ names) ∷ []
-comparison-broken n l r names (Right x) = for-names 30 n (term-free l ∖ names) ∷ []
-comparison-broken n l r names Neither = for-names 31 n ((term-free l ∪ term-free r) ∖ names) ∷ []
+-- "31, other comparison: all its free names."
+abbrev pub other-broken : NodeNo → Term → Term → Set → Broken
+other-broken n l r names = for-names 31 n ((term-free l ∪ term-free r) ∖ names)
+
+-- "30, binding equality: the other side's free names must be tied."
+abbrev pub equality-broken : NodeNo → Term → Term → Set → Equality → Broken
+equality-broken n l r names (Left x) = for-names 30 n (term-free r ∖ names)
+equality-broken n l r names (Right x) = for-names 30 n (term-free l ∖ names)
+equality-broken n l r names (Nothing why) = other-broken n l r names
+
+abbrev pub comparison-broken : NodeNo → ℕ → Term → Term → Set → Broken
+comparison-broken n o l r names = pick (is-equality o) (equality-broken n l r names (equality l r)) (other-broken n l r names)
 
 -- "31, .. or Not: all its free names. 32, Since: free names of the left, tied or restricted by the right."
 abbrev condition-broken : Condition → Set → List Broken
@@ -100,7 +107,7 @@ condition-broken (Not n b) names = for-names 31 n (free b ∖ names) ∷ []
 condition-broken (Past n k b w) names = []
 condition-broken (Since n l r w) names = for-names 32 n (free l ∖ (names ∪ restricted r)) ∷ []
 condition-broken (Exists n s y b) names = []
-condition-broken (Comparison n o l r) names = comparison-broken n l r names (tied o l r)
+condition-broken (Comparison n o l r) names = comparison-broken n o l r names ∷ []
 condition-broken (Predicate n a l) names = []
 condition-broken (Refine n b l) names = []
 condition-broken (Tp n s) names = []

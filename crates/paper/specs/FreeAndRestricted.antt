@@ -1,13 +1,14 @@
 -- Document 01, 'Free and restricted names', and what it means that a condition holds a sigil. Assumes nothing: these are definitions.
 use Prim.Native.Nat.{ℕ}
-use mathlib.Core.Bool.{Bool, true, false, not, _||_}
+use mathlib.Core.Bool.{Bool, true, false, _||_}
 use lib.Dec.{eqb}
 use Rattle.paper.specs.declared.Slot.{Slot}
 use Rattle.paper.specs.declared.Slot.the-variants as slot
 use Rattle.paper.specs.declared.Subject.{Subject}
 use Rattle.paper.specs.declared.Subject.the-variants.{Name, NoName}
-use Rattle.paper.specs.declared.Tied.{Tied}
-use Rattle.paper.specs.declared.Tied.the-variants.{Left, Right, Neither}
+use Rattle.paper.specs.declared.Reason.the-variants as reason
+use Rattle.paper.specs.declared.Equality.{Equality}
+use Rattle.paper.specs.declared.Equality.the-variants.{Left, Right, Nothing}
 use Rattle.paper.specs.Record.{pick}
 use Rattle.paper.specs.Sets.{Set, none, only, _∪_, _∖_}
 use Rattle.paper.specs.Tree.{Condition, Term, Arguments, Items, Binders}
@@ -107,33 +108,37 @@ unfoldable pub about : Subject → Set
 about (Name x) = only (x .0)
 about NoName = none
 
--- whether a side has a value that ties a bare variable: "unless the other side is a wildcard or arithmetic containing one"; `x == ?p` gives x
-unfoldable pub ties : Term → Bool
-ties (Var n x) = false
-ties (Wildcard n) = false
-ties (Value n k y) = true
-ties (Sigil n k i) = true
-ties (Array n l) = true
-ties (Arith n o l r) = not (has-wildcard l || has-wildcard r)
-ties (Sum n s l b) = true
-ties (Count n l b) = true
-ties (AggregateCall n y) = true
+-- "unless the other side is a wildcard or arithmetic containing one": what the equality gives, by the side that is no bare variable. `x == ?p` gives x
+unfoldable pub unless : Term → Equality → Equality
+unless (Var n x) gives = gives
+unless (Wildcard n) gives = Nothing reason.Wildcard
+unless (Value n k y) gives = gives
+unless (Sigil n k i) gives = gives
+unless (Array n l) gives = gives
+unless (Arith n o l r) gives = pick (has-wildcard l || has-wildcard r) (Nothing reason.Arithmetic) gives
+unless (Sum n s l b) gives = gives
+unless (Count n l b) gives = gives
+unless (AggregateCall n y) gives = gives
 
--- "an equality with exactly one bare variable gives it": the bare variables of the two sides, and whether each side ties
-unfoldable pub equality : Subject → Subject → Bool → Bool → Tied
-equality (Name x) (Name y) left right = Neither
-equality (Name x) NoName left right = pick right (Left x) Neither
-equality NoName (Name y) left right = pick left (Right y) Neither
-equality NoName NoName left right = Neither
+-- "an equality with exactly one bare variable gives it": the bare variables of the two sides, and the sides
+unfoldable pub by-bare : Subject → Subject → Term → Term → Equality
+by-bare (Name x) (Name y) l r = Nothing reason.BothBare
+by-bare (Name x) NoName l r = unless r (Left x)
+by-bare NoName (Name y) l r = unless l (Right y)
+by-bare NoName NoName l r = Nothing reason.NeitherBare
 
--- "op 0 is equality, 1 to 5 the others, all treated alike"
-unfoldable pub tied : ℕ → Term → Term → Tied
-tied op l r = pick (eqb op 0) (equality (bare l) (bare r) (ties l) (ties r)) Neither
+-- document 02, W-205: "which side is tied, or which of four reasons holds: both bare, neither bare, wildcard, arithmetic with a wildcard"
+unfoldable pub equality : Term → Term → Equality
+equality l r = by-bare (bare l) (bare r) l r
 
-unfoldable pub tied-name : Tied → Set
+unfoldable pub tied-name : Equality → Set
 tied-name (Left x) = only (x .0)
 tied-name (Right x) = only (x .0)
-tied-name Neither = none
+tied-name (Nothing why) = none
+
+-- "op 0 is equality, 1 to 5 the others, all treated alike"
+abbrev pub is-equality : ℕ → Bool
+is-equality op = eqb op 0
 
 -- ---- restricted
 
@@ -151,7 +156,7 @@ restricted (Not n b) = none
 restricted (Past n k b w) = restricted b
 restricted (Since n l r w) = restricted r
 restricted (Exists n s y b) = restricted b ∖ named s
-restricted (Comparison n o l r) = tied-name (tied o l r)
+restricted (Comparison n o l r) = pick (is-equality o) (tied-name (equality l r)) none
 restricted (Predicate n a l) = direct l
 restricted (Refine n b l) = restricted b ∪ direct l
 restricted (Tp n s) = named s

@@ -57,11 +57,19 @@ pub enum Subject {
     NoName,
 }
 
-// Which side of a comparison is tied to the other's value, and its name.
-pub enum Tied {
+// Why an equality ties nothing: both its sides are bare variables, or neither is; or one is, and the other is a wildcard, or arithmetic that contains one.
+pub enum Reason {
+    BothBare,
+    NeitherBare,
+    Wildcard,
+    Arithmetic,
+}
+
+// What an equality ties: the variable on its left or on its right, or nothing, for a reason.
+pub enum Equality {
     Left(NameNo),
     Right(NameNo),
-    Neither,
+    Nothing(Reason),
 }
 
 // One unmet rule: its number, the node that it stands at, and the name that it is about.

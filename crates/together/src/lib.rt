@@ -7,8 +7,8 @@ use marks::bound_marks;
 use marks::mark;
 use marks::searched_marks;
 use names::Names;
+use paper::Equality;
 use paper::Slot;
-use paper::Tied;
 use slots::slot_name;
 ghost use mathlib.Core.Path.{_≡_};
 ghost use mathlib.Core.Bool.{true, false};
@@ -17,7 +17,7 @@ ghost use Rattle.paper.specs.FreeAndRestricted.{tied-name};
 ghost use Rattle.trees.specs.Terms.{Tabled, TabledTied};
 ghost use Rattle.known.specs.Needs.{owes};
 ghost use Rattle.known.specs.Rows.{meant};
-ghost use Rattle.known.specs.Known.{nothing as no-facts, opaque as opaque-facts, naming as named-facts, both as both-facts, join, and-known, or-known, arith-known, since-known, compared as compared-facts, searched as searched-facts, loose as loose-facts, refined as refined-facts, bound as bound-facts};
+ghost use Rattle.known.specs.Known.{nothing as no-facts, opaque as opaque-facts, naming as named-facts, both as both-facts, join, and-known, or-known, arith-known, since-known, compared as compared-facts, equated as equated-facts, searched as searched-facts, loose as loose-facts, refined as refined-facts, bound as bound-facts};
 
 pub fn nothing() -> Facts
     ensures { λ r. ⌜ meant r ≡ no-facts ⌝ }
@@ -151,37 +151,48 @@ pub fn since_facts(left: Facts, right: Facts) -> Facts
 }
 
 // The name that an equality ties.
-fn tied_var(side: Tied) -> Names
+fn tied_var(side: Equality) -> Names
     requires { ⌜ TabledTied side ⌝ }
     ensures { λ r. ⌜ mem r ≡ tied-name side ⌝ }
 {
     match side {
-        Tied::Left(x) => names::single(x),
-        Tied::Right(x) => names::single(x),
-        Tied::Neither => names::empty(),
+        Equality::Left(x) => names::single(x),
+        Equality::Right(x) => names::single(x),
+        Equality::Nothing(_) => names::empty(),
     }
 }
 
-// What a comparison owes, from the free names of its sides.
-fn owed(side: Tied, left: Names, right: Names) -> Names
+// What an equality owes, from the free names of its sides.
+fn owed(side: Equality, left: Names, right: Names) -> Names
     ensures { λ r. ⌜ mem r ≡ owes side (mem left) (mem right) ⌝ }
 {
     match side {
-        Tied::Left(_) => right,
-        Tied::Right(_) => left,
-        Tied::Neither => names::union(left, right),
+        Equality::Left(_) => right,
+        Equality::Right(_) => left,
+        Equality::Nothing(_) => names::union(left, right),
     }
 }
 
-// A comparison, by the side that it ties.
-pub fn compared(side: Tied, left: Facts, right: Facts) -> Facts
+// An equality, by what it ties.
+pub fn equated(side: Equality, left: Facts, right: Facts) -> Facts
     requires { ⌜ TabledTied side ⌝ }
-    ensures { λ r. ⌜ meant r ≡ compared-facts side (meant left) (meant right) ⌝ }
+    ensures { λ r. ⌜ meant r ≡ equated-facts side (meant left) (meant right) ⌝ }
 {
     let given = tied_var(side);
     let own = owed(side, left.free, right.free);
     let below = names::union(left.need, right.need);
     let needs = names::union(own, below);
+    both(left, right, given, needs)
+}
+
+// Any other comparison, which restricts nothing and owes all that is free.
+pub fn compared(left: Facts, right: Facts) -> Facts
+    ensures { λ r. ⌜ meant r ≡ compared-facts (meant left) (meant right) ⌝ }
+{
+    let given = names::empty();
+    let all = names::union(left.free, right.free);
+    let deeper = names::union(left.need, right.need);
+    let needs = names::union(all, deeper);
     both(left, right, given, needs)
 }
 

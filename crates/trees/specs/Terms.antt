@@ -3,8 +3,8 @@ use Prim.Native.Nat.{_<_}
 use mathlib.Core.Bool.{Bool, false, _||_}
 use Rattle.paper.specs.declared.Slot.{Slot}
 use Rattle.paper.specs.declared.Slot.the-variants.{Name, Param, Binder}
-use Rattle.paper.specs.declared.Tied.{Tied}
-use Rattle.paper.specs.declared.Tied.the-variants.{Left, Right, Neither}
+use Rattle.paper.specs.declared.Equality.{Equality}
+use Rattle.paper.specs.declared.Equality.the-variants.{Left, Right, Nothing}
 use Rattle.paper.specs.Tree.{Arguments, Tree}
 use Rattle.paper.specs.Tree.Arguments.{no-argument, argument}
 use Rattle.paper.specs.FreeAndRestricted.{has-wildcard, items-wildcard}
@@ -25,7 +25,7 @@ Tabled (Param k) = Unit {0}
 Tabled (Binder k) = Unit {0}
 
 -- and so is the name that an equality ties
-abbrev pub TabledTied : Tied → Type 0
+abbrev pub TabledTied : Equality → Type 0
 TabledTied (Left x) = x .0 < 128
 TabledTied (Right x) = x .0 < 128
-TabledTied Neither = Unit {0}
+TabledTied (Nothing why) = Unit {0}

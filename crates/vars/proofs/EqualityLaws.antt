@@ -1,12 +1,10 @@
--- What `term_contains_wildcard`, `bare_var` and `is_restrictor` find at a node, and what an equality ties. Assumes nothing.
+-- What `term_contains_wildcard`, `bare_var` and `unless` find at a node, and what an equality ties. Assumes nothing.
 use mathlib.Core.Path.{_≡_, refl, sym, ap, _∙_, subst}
-use mathlib.Core.Bool.{Bool, true, false, not, true≢false, _||_}
+use mathlib.Core.Bool.{true, false, _||_}
 use mathlib.Core.List.{List, [], _∷_}
 use Prim.Native.Nat.{ℕ, _<_}
 use native.Mathlib.Omega.{arith}
-use lib.Dec.{eqb}
 use lib.ListN.{getD}
-use borrow.Author.Tests.{eq-eqb, ne-eqb}
 use types.Run.{OneOf, miss}
 use denote.Enum.Declared.{tagOf}
 use Rattle.paper.proofs.Node.{the-type}
@@ -14,17 +12,18 @@ use Rattle.paper.specs.declared.NodeNo.{NodeNo}
 use Rattle.paper.specs.declared.NameNo.{NameNo}
 use Rattle.paper.specs.declared.Subject.{Subject}
 use Rattle.paper.specs.declared.Subject.the-variants as subject
-use Rattle.paper.specs.declared.Tied.{Tied}
-use Rattle.paper.specs.declared.Tied.the-variants.{Left, Right, Neither}
+use Rattle.paper.specs.declared.Reason.the-variants as reason
+use Rattle.paper.specs.declared.Equality.{Equality}
+use Rattle.paper.specs.declared.Equality.the-variants.{Left, Right, Nothing}
 use Rattle.paper.specs.declared.Node.{Node}
 use Rattle.paper.specs.declared.Node.the-variants as node
-use Rattle.paper.specs.Sets.{only}
 use Rattle.paper.specs.Record.{pick, node-no}
 use Rattle.paper.specs.Shape.{names-in}
 use Rattle.paper.specs.Tree.{Term, Tree, as-term, planted}
-use Rattle.paper.specs.Tree.Term.{Var, Wildcard, Value, Sigil, Array, Arith, Sum, Count, AggregateCall}
-use Rattle.paper.specs.FreeAndRestricted.{has-wildcard, items-wildcard, bare, ties, equality, tied, tied-name}
+use Rattle.paper.specs.Tree.Term.{Var, Wildcard, Arith}
+use Rattle.paper.specs.FreeAndRestricted.{has-wildcard, items-wildcard, bare, unless, by-bare, equality}
 use Rattle.paper.proofs.Walks.{All}
+use Rattle.paper.proofs.Equalities.{no-name, Means, means}
 use Rattle.memory.specs.Columns.{node-told}
 use Rattle.memory.proofs.Unnamed.{Away, Rest, rest-away, by-number}
 use Rattle.record.specs.Stored.{held, Has}
@@ -47,9 +46,6 @@ wildcard-terms =
       no-argument = λ n. refl;
       no-item = λ n. refl;
     }
-
-no-name : {x : NameNo} → subject.NoName ≡ subject.Name x → ⊥
-no-name e = let z : _≡_ {A = ℕ} 0 1 = cc in omega arith
 
 same-name : {x y : NameNo} → subject.Name x ≡ subject.Name y → x ≡ y
 same-name e = cc
@@ -81,95 +77,28 @@ module _ {columns : List ℕ} {i : ℕ} where
           (λ s l b a e. absurd (no-name e)) (λ l b a e. absurd (no-name e)) (λ y a e. absurd (no-name e)) (λ m o a e. absurd (no-name e))
           m (a .tabled) (sym (in-term bare a) ∙ e)
 
-  -- arithmetic ties where it contains no wildcard
-  pub ties-arith : {o : ℕ} {l r : NodeNo} → Arm columns i (node.Arith o l r) → ties (term-of columns i) ≡ not (wildcard-in (tree-of columns i))
-  unfolding planted as-term in-terms ties has-wildcard
-  ties-arith a = in-term ties a ∙ sym (ap (λ (t : Tree). not (wildcard-in t)) (a .tree))
+  -- arithmetic gives nothing where it contains a wildcard
+  pub unless-arith : {o : ℕ} {l r : NodeNo} (gives : Equality) → Arm columns i (node.Arith o l r)
+      → unless (term-of columns i) gives ≡ pick (wildcard-in (tree-of columns i)) (Nothing reason.Arithmetic) gives
+  unfolding planted as-term in-terms unless has-wildcard
+  unless-arith gives a =
+      in-term (λ (t : Term). unless t gives) a ∙ sym (ap (λ (t : Tree). pick (wildcard-in t) (Nothing reason.Arithmetic) gives) (a .tree))
 
 -- ---- what an equality ties
 
--- what has a value is no bare variable
-ties-unbare : (t : Term) → ties t ≡ true → bare t ≡ subject.NoName
-unfolding ties bare
-ties-unbare (Var n x) e = absurd (true≢false (sym e))
-ties-unbare (Wildcard n) e = refl
-ties-unbare (Value n k y) e = refl
-ties-unbare (Sigil n k y) e = refl
-ties-unbare (Array n l) e = refl
-ties-unbare (Arith n o l r) e = refl
-ties-unbare (Sum n s l b) e = refl
-ties-unbare (Count n l b) e = refl
-ties-unbare (AggregateCall n y) e = refl
+-- the bare variables of its sides decide
+pub by-sides : (l r : Term) {p q : Subject} → bare l ≡ p → bare r ≡ q → equality l r ≡ by-bare p q l r
+unfolding equality
+by-sides l r e d = rw (e, d)
 
-module _ (l r : Term) where
-  pub tied-other : (o : ℕ) → (o ≡ 0 → ⊥) → tied o l r ≡ Neither
-  unfolding tied
-  tied-other o h = rw (ne-eqb o 0 h)
-
-  pub tied-left : (o : ℕ) → o ≡ 0 → {x : NameNo} → bare l ≡ subject.Name x → ties r ≡ true → tied o l r ≡ Left x
-  unfolding tied equality
-  tied-left o h e f = rw (eq-eqb o 0 h, e, ties-unbare r f, f)
-
-  pub tied-left-not : (o : ℕ) → o ≡ 0 → {x : NameNo} → bare l ≡ subject.Name x → ties r ≡ false → tied o l r ≡ Neither
-  unfolding tied equality
-  tied-left-not o h {x} e f = rw (eq-eqb o 0 h, e, f) (go (bare r))
-    where
-      go : (q : Subject) → equality (subject.Name x) q (ties l) false ≡ Neither
-      go (subject.Name y) = refl
-      go subject.NoName = refl
-
-  pub tied-right : (o : ℕ) → o ≡ 0 → bare l ≡ subject.NoName → {y : NameNo} → bare r ≡ subject.Name y → ties l ≡ true → tied o l r ≡ Right y
-  unfolding tied equality
-  tied-right o h e f g = rw (eq-eqb o 0 h, e, f, g)
-
-  pub tied-right-not : (o : ℕ) → o ≡ 0 → bare l ≡ subject.NoName → {y : NameNo} → bare r ≡ subject.Name y → ties l ≡ false → tied o l r ≡ Neither
-  unfolding tied equality
-  tied-right-not o h e f g = rw (eq-eqb o 0 h, e, f, g)
-
-  pub tied-neither : (o : ℕ) → bare l ≡ subject.NoName → bare r ≡ subject.NoName → tied o l r ≡ Neither
-  unfolding tied equality
-  tied-neither o e f = rw (e, f) (go (eqb o 0))
-    where
-      go : (b : Bool) → pick b Neither Neither ≡ Neither
-      go true = refl
-      go false = refl
-
--- the tied name is the bare variable of its side
-abbrev OfSide : Tied → Subject → Subject → Type 0
-OfSide (Left x) p q = p ≡ subject.Name x
-OfSide (Right x) p q = q ≡ subject.Name x
-OfSide Neither p q = Unit {0}
-
-tied-bare : (o : ℕ) (l r : Term) → OfSide (tied o l r) (bare l) (bare r)
-unfolding tied equality
-tied-bare o l r = go (eqb o 0) (bare l) (bare r) (ties l) (ties r)
+-- the name that an equality ties is in the table
+pub tied-within : {columns : List ℕ} {i j : ℕ} → Has columns i → Has columns j → (z : Equality) → z ≡ equality (term-of columns i) (term-of columns j) → TabledTied z
+tied-within {columns} {i} {j} h k z e = go z (subst (Means (term-of columns i) (term-of columns j)) (sym e) (means _ _))
   where
-    go : (b : Bool) (p q : Subject) (s t : Bool) → OfSide (pick b (equality p q s t) Neither) p q
-    go false p q s t = tt
-    go true (subject.Name x) (subject.Name y) s t = tt
-    go true (subject.Name x) subject.NoName s true = refl
-    go true (subject.Name x) subject.NoName s false = tt
-    go true subject.NoName (subject.Name y) true t = refl
-    go true subject.NoName (subject.Name y) false t = tt
-    go true subject.NoName subject.NoName s t = tt
-
--- the name that a comparison ties, on whichever side
-data TiedTo (x : NameNo) : Tied → Type 0 where
-  left : TiedTo x (Left x)
-  right : TiedTo x (Right x)
-
-tied-tabled : {columns : List ℕ} {i j : ℕ} → Has columns i → Has columns j → {x : NameNo} {z : Tied} → TiedTo x z → (o : ℕ)
-    → z ≡ tied o (term-of columns i) (term-of columns j) → x .0 < 128
-tied-tabled {columns} {i} {j} h k {x} {z} d o e = go d (subst (λ (y : Tied). OfSide y (bare (term-of columns i)) (bare (term-of columns j))) (sym e) (tied-bare o _ _))
-  where
-    go : {z : Tied} → TiedTo x z → OfSide z (bare (term-of columns i)) (bare (term-of columns j)) → x .0 < 128
-    go left e = bare-tabled h e
-    go right e = bare-tabled k e
-
-pub tied-within : {columns : List ℕ} {i j : ℕ} → Has columns i → Has columns j → (z : Tied) (o : ℕ) → z ≡ tied o (term-of columns i) (term-of columns j) → TabledTied z
-tied-within h k (Left x) o e = tied-tabled h k left o e
-tied-within h k (Right x) o e = tied-tabled h k right o e
-tied-within h k Neither o e = tt
+    go : (z : Equality) → Means (term-of columns i) (term-of columns j) z → TabledTied z
+    go (Left x) b = bare-tabled h (b .is-bare)
+    go (Right x) b = bare-tabled k (b .is-bare)
+    go (Nothing why) m = tt
 
 -- ---- the other kinds
 
@@ -193,13 +122,13 @@ not-bare t n k ps rest =
     ((λ a. refl), ((λ a. refl), ((λ a. refl), ((λ a. refl), ((λ a. refl), ((λ a. refl), ((λ a. refl), ((λ a. refl), ((λ a. refl), ((λ a. refl), ((λ a. refl), ((λ a. refl), ((λ a. refl), ((λ a. absurd (a .0 refl)), ((λ a. refl), ((λ a. refl), ((λ a. refl), ((λ a. refl), ((λ a. refl), ((λ a. refl), ((λ a. refl), ((λ a. refl), ((λ a. refl), ((λ a. refl), ((λ a. refl), ((λ a. refl), ((λ a. refl), ((λ a. refl), tt))))))))))))))))))))))))))))
     refl (rest-away (0x20 ∷ []) k (Unit {0}) rest .1)
 
--- no variable, no wildcard and no arithmetic
-abbrev valueless : List ℕ
-valueless = 0x20 ∷ 0x21 ∷ 0x28 ∷ []
+-- no wildcard and no arithmetic
+abbrev open-kinds : List ℕ
+open-kinds = 0x21 ∷ 0x28 ∷ []
 
-pub ties-value : (t : ℕ → Tree) (n : NodeNo) (k : ℕ) (ps : List ℕ) → Rest valueless k (Unit {0}) → ties (as-term (planted t n (node-told k ps))) ≡ true
-unfolding node-told planted as-term ties Away
-ties-value t n k ps rest =
-    by-number (λ m. ties (as-term (planted t n m)) ≡ true) valueless k ps
-    ((λ a. refl), ((λ a. refl), ((λ a. refl), ((λ a. refl), ((λ a. refl), ((λ a. refl), ((λ a. refl), ((λ a. refl), ((λ a. refl), ((λ a. refl), ((λ a. refl), ((λ a. refl), ((λ a. refl), ((λ a. absurd (a .0 refl)), ((λ a. absurd (a .1 .0 refl)), ((λ a. refl), ((λ a. refl), ((λ a. refl), ((λ a. refl), ((λ a. refl), ((λ a. refl), ((λ a. absurd (a .1 .1 .0 refl)), ((λ a. refl), ((λ a. refl), ((λ a. refl), ((λ a. refl), ((λ a. refl), ((λ a. refl), tt))))))))))))))))))))))))))))
-    refl (rest-away valueless k (Unit {0}) rest .1)
+pub unless-other : (t : ℕ → Tree) (n : NodeNo) (gives : Equality) (k : ℕ) (ps : List ℕ) → Rest open-kinds k (Unit {0}) → unless (as-term (planted t n (node-told k ps))) gives ≡ gives
+unfolding node-told planted as-term unless Away
+unless-other t n gives k ps rest =
+    by-number (λ m. unless (as-term (planted t n m)) gives ≡ gives) open-kinds k ps
+    ((λ a. refl), ((λ a. refl), ((λ a. refl), ((λ a. refl), ((λ a. refl), ((λ a. refl), ((λ a. refl), ((λ a. refl), ((λ a. refl), ((λ a. refl), ((λ a. refl), ((λ a. refl), ((λ a. refl), ((λ a. refl), ((λ a. absurd (a .0 refl)), ((λ a. refl), ((λ a. refl), ((λ a. refl), ((λ a. refl), ((λ a. refl), ((λ a. refl), ((λ a. absurd (a .1 .0 refl)), ((λ a. refl), ((λ a. refl), ((λ a. refl), ((λ a. refl), ((λ a. refl), ((λ a. refl), tt))))))))))))))))))))))))))))
+    refl (rest-away open-kinds k (Unit {0}) rest .1)

@@ -1,19 +1,18 @@
-// What an equality ties.
+// What an equality ties, or why nothing.
 use memory::PLACE_0;
-use names::Names;
 use nodes::kind_in;
 use nodes::lower;
 use nodes::number_in;
+use paper::Equality;
 use paper::NameNo;
 use paper::Node;
 use paper::NodeNo;
+use paper::Reason;
 use paper::Subject;
-use paper::Tied;
 use record::access::node_at;
 use record::access::word_at;
 ghost use mathlib.Core.Path.{_≡_};
-ghost use Rattle.paper.specs.FreeAndRestricted.{bare, ties, tied, tied-name};
-ghost use Rattle.names.specs.Words.{mem};
+ghost use Rattle.paper.specs.FreeAndRestricted.{bare, unless, equality};
 ghost use Rattle.record.specs.Stored.{Has};
 ghost use Rattle.trees.specs.Trees.{tree-of, term-of};
 ghost use Rattle.trees.specs.Terms.{wildcard-in};
@@ -46,46 +45,41 @@ pub fn bare_var(columns: &[u64; 513], i: NodeNo) -> Subject
     }
 }
 
-// Whether a side of an equality has a value that ties the variable on the other.
-pub fn is_restrictor(columns: &[u64; 513], i: NodeNo) -> bool
+// What an equality gives that has a bare variable opposite this side: nothing, if the side has no value.
+fn unless(columns: &[u64; 513], i: NodeNo, gives: Equality) -> Equality
     requires { ⌜ Has (now columns) (i .0) ⌝ }
-    ensures { λ r. ⌜ r ≡ ties (term-of (now (columns .entry)) (i .0)) ⌝ }
+    ensures { λ r. ⌜ r ≡ unless (term-of (now (columns .entry)) (i .0)) gives ⌝ }
 {
     let word = word_at(columns, i);
-    // A variable or a wildcard has no value, and arithmetic has none over a wildcard.
+    // A wildcard has no value, and arithmetic has none over a wildcard.
     match kind_in(word) {
-        0x20 => false,
-        0x21 => false,
-        0x28 => !term_contains_wildcard(columns, i),
-        _ => true,
+        0x21 => Equality::Nothing(Reason::Wildcard),
+        0x28 => {
+            if term_contains_wildcard(columns, i) {
+                Equality::Nothing(Reason::Arithmetic)
+            } else {
+                gives
+            }
+        }
+        _ => gives,
     }
 }
 
-// Which side of a comparison is tied to the other's value.
-pub fn eq_restricted_var(columns: &[u64; 513], op: u8, l: NodeNo, r: NodeNo) -> Tied
+// What an equality ties, or why nothing.
+pub fn eq_restricted_var(columns: &[u64; 513], l: NodeNo, r: NodeNo) -> Equality
     requires { ⌜ Has (now columns) (l .0) × Has (now columns) (r .0) ⌝ }
-    ensures { λ t. ⌜ t ≡ tied op (term-of (now (columns .entry)) (l .0)) (term-of (now (columns .entry)) (r .0)) ⌝ }
+    ensures { λ e. ⌜ e ≡ equality (term-of (now (columns .entry)) (l .0)) (term-of (now (columns .entry)) (r .0)) ⌝ }
 {
-    if op != 0 {
-        return Tied::Neither;
-    }
-    match bare_var(columns, l) {
-        Subject::Name(x) => {
-            if is_restrictor(columns, r) {
-                Tied::Left(x)
-            } else {
-                Tied::Neither
-            }
-        }
-        Subject::NoName => match bare_var(columns, r) {
-            Subject::Name(y) => {
-                if is_restrictor(columns, l) {
-                    Tied::Right(y)
-                } else {
-                    Tied::Neither
-                }
-            }
-            Subject::NoName => Tied::Neither,
+    let left = bare_var(columns, l);
+    let right = bare_var(columns, r);
+    match left {
+        Subject::Name(x) => match right {
+            Subject::Name(_) => Equality::Nothing(Reason::BothBare),
+            Subject::NoName => unless(columns, r, Equality::Left(x)),
+        },
+        Subject::NoName => match right {
+            Subject::Name(y) => unless(columns, l, Equality::Right(y)),
+            Subject::NoName => Equality::Nothing(Reason::NeitherBare),
         },
     }
 }

@@ -1,19 +1,23 @@
 -- `pair_facts` has the facts of each kind with two parts; the last arm has those of a cell. Assumes nothing.
 use mathlib.Core.Path.{_≡_, refl, sym, ap, ap₂, _∙_}
+use mathlib.Core.Bool.{Bool}
 use mathlib.Core.List.{List, [], _∷_}
 use native.Mathlib.Omega.{arith}
 use Prim.Native.Nat.{ℕ, _/_, _%_}
 use denote.Ref.{now}
+use lib.Dec.{eqb}
 use lib.ListN.{getD}
+use borrow.Author.Tests.{eq-eqb, ne-eqb}
 use Rattle.paper.specs.declared.Node.{Node}
-use Rattle.paper.specs.declared.Tied.{Tied}
+use Rattle.paper.specs.declared.Equality.{Equality}
+use Rattle.paper.specs.Record.{pick}
 use Rattle.paper.specs.Tree.{as-term}
-use Rattle.paper.specs.FreeAndRestricted.{tied}
+use Rattle.paper.specs.FreeAndRestricted.{equality}
 use Rattle.memory.specs.Columns.{node-told, places-in}
 use Rattle.memory.proofs.Unnamed.{Rest}
 use Rattle.trees.specs.Trees.{tree-of}
 use Rattle.vars.proofs.EqualityLaws.{tied-within}
-use Rattle.known.specs.Known.{Known, compared, parts-of, nodes-of, between, way, own}
+use Rattle.known.specs.Known.{Known, compared, equated, parts-of, nodes-of, between, way, own}
 use Rattle.known.specs.Rows.{meant, node-of}
 use Rattle.known.proofs.RowLaws.{read-right}
 use Rattle.known.proofs.NodeLaws.{both-had, first-row, second-row}
@@ -63,30 +67,39 @@ sinces : tie.Need-returns-3
 unfolding node-told way
 sinces c = c .since-facts .ensures ∙ comes (c .before .before) (c .before .match .keys3) refl
 
-compares : tie.Need-returns-4
+-- a comparison, by whether it is an equality
+comparison : (c : tie.After-lower) {b : Bool} → eqb (c .lower .result) 0 ≡ b → let k = c .before .before .before in let s = k .before .before .before .before in
+    let t = tree-of (columns k) in
+    pick b (equated (equality (as-term (t (s .args .l .0))) (as-term (t (s .args .r .0))))) compared (left k) (right k) ≡ own t (node-of (columns k) (s .args .i .0))
 unfolding node-told way parts-of
-compares c =
-    let side = c .before in
-    let op = side .before .before in
-    let k = op .before .before in
+comparison c d =
+    let k = c .before .before .before in
     let s = k .before .before .before .before in
     let t = tree-of (columns k) in
-    let o = side .before .lower .ensures ∙ ap (λ (x : ℕ). x % 256) (op .number-in .ensures) in
-    c .compared .ensures
-    ∙ ap (λ (z : Tied). compared z (left k) (right k))
-    (side .eq-restricted-var .ensures ∙ ap (λ (x : ℕ). tied x (as-term (t (s .args .l .0))) (as-term (t (s .args .r .0)))) o
-    ∙ ap (λ (p : List ℕ). tied (k .before .word-at .result / 0x10000 % 0x10000 % 256) (as-term (t (getD p 0 0))) (as-term (t (getD p 1 0)))) (sym (parts-are k (op .before .match .keys4))))
-    ∙ comes k (op .before .match .keys4) refl
+    let o = c .lower .ensures ∙ ap (λ (x : ℕ). x % 256) (c .before .number-in .ensures) in
+    ap (λ (b : Bool). pick b (equated (equality (as-term (t (s .args .l .0))) (as-term (t (s .args .r .0))))) compared (left k) (right k)) (sym d ∙ ap (λ (x : ℕ). eqb x 0) o)
+    ∙ ap (λ (p : List ℕ). pick (eqb (k .before .word-at .result / 0x10000 % 0x10000 % 256) 0) (equated (equality (as-term (t (getD p 0 0))) (as-term (t (getD p 1 0))))) compared (left k) (right k))
+    (sym (parts-are k (c .before .before .match .keys4)))
+    ∙ comes k (c .before .before .match .keys4) refl
 
-refines : tie.Need-returns-5
+equates : tie.Need-returns-4
+equates c =
+    let k = c .before .before .before .before .before .before in
+    c .equated .ensures ∙ ap (λ (z : Equality). equated z (left k) (right k)) (c .before .eq-restricted-var .ensures)
+    ∙ comparison (c .before .before .before) (eq-eqb _ 0 (c .before .before .if1 .taken))
+
+compares : tie.Need-returns-5
+compares c = c .compared .ensures ∙ comparison (c .before .before) (ne-eqb _ 0 (c .before .if1 .left))
+
+refines : tie.Need-returns-6
 unfolding node-told way
 refines c = c .refined .ensures ∙ comes (c .before .before) (c .before .match .keys5) refl
 
-ariths : tie.Need-returns-6
+ariths : tie.Need-returns-7
 unfolding node-told way
 ariths c = c .arith-facts .ensures ∙ comes (c .before .before) (c .before .match .keys6) refl
 
-joins : tie.Need-returns-7
+joins : tie.Need-returns-8
 unfolding Rest
 joins c =
     let k = c .before .before in
@@ -96,14 +109,14 @@ joins c =
 
 sides : tie.Need-eq-restricted-var-requires
 sides c κs =
-    let s = c .before .before .before .before .before .before .before in
+    let s = c .before .before .before .before .before .before .before .before in
     both-had (s .pre .0) refl (s .pre .1)
 
-tabled : tie.Need-compared-requires
+tabled : tie.Need-equated-requires
 tabled c κs =
-    let s = c .before .before .before .before .before .before .before .before in
+    let s = c .before .before .before .before .before .before .before .before .before in
     let h = both-had (s .pre .0) refl (s .pre .1) in
-    tied-within (h .0) (h .1) _ _ (c .eq-restricted-var .ensures)
+    tied-within (h .0) (h .1) _ (c .eq-restricted-var .ensures)
 
 pub pair-facts-spec : {M : Type 1} → statement M
 pair-facts-spec =
@@ -123,9 +136,11 @@ pair-facts-spec =
     (λ c κs. tt)
     (λ c κs. tt)
     (λ c κs. tt)
+    (λ c κs. tt)
     ands
     ors
     sinces
+    equates
     compares
     refines
     ariths

@@ -1,6 +1,5 @@
--- `compared` restricts the name that is tied and owes the other side. Assumes nothing.
+-- `compared` restricts nothing and owes what is free on both sides. Assumes nothing.
 use mathlib.Core.Path.{_∙_}
-use borrow.Author.Needs.{needs}
 use Rattle.known.specs.Known.{compared}
 use Rattle.known.specs.Rows.{meant}
 use Rattle.together.proofs.compared.Statement.{statement}
@@ -8,7 +7,7 @@ use Rattle.together.proofs.compared.Tie as tie
 
 returns : tie.Need-returns
 unfolding meant compared
-returns c = c .both .ensures ∙ rw (c .before .union2 .ensures, c .before .before .union .ensures, c .before .before .before .owed .ensures, c .before .before .before .before .tied-var .ensures)
+returns c = c .both .ensures ∙ rw (c .before .union3 .ensures, c .before .before .union2 .ensures, c .before .before .before .union .ensures, c .before .before .before .before .empty .ensures)
 
 pub compared-spec : {M : Type 1} → statement M
-compared-spec = tie.close (tie.spec (λ c κs. c .pre) (λ c κs. tt) (λ c κs. tt) (λ c κs. tt) (λ c κs. tt) returns)
+compared-spec = tie.close (tie.spec (λ c κs. tt) (λ c κs. tt) (λ c κs. tt) (λ c κs. tt) (λ c κs. tt) returns)

@@ -1,8 +1,5 @@
 -- `owed` is the definition, side by side. Assumes nothing.
-use mathlib.Core.Path.{_≡_, refl, sym, ap, _∙_}
-use Rattle.paper.specs.declared.Tied.{Tied}
-use Rattle.paper.specs.Sets.{Set}
-use Rattle.names.specs.Words.{mem}
+use mathlib.Core.Path.{_∙_}
 use Rattle.known.specs.Needs.{owes}
 use borrow.Author.Needs.{needs}
 use Rattle.together.proofs.owed.Statement.{statement}

@@ -1,25 +1,52 @@
--- `eq_restricted_var` says which side is tied. The needs are in the order of the code.
+-- `eq_restricted_var` says what an equality ties, or why nothing. The needs are in the order of the code.
 use mathlib.Core.Path.{sym, _∙_}
 use borrow.Author.Needs.{needs}
-use Rattle.vars.proofs.EqualityLaws.{tied-other, tied-left, tied-left-not, tied-right, tied-right-not, tied-neither}
+use Rattle.paper.specs.FreeAndRestricted.{by-bare}
+use Rattle.vars.proofs.EqualityLaws.{by-sides}
 use Rattle.vars.proofs.eq_restricted_var.Statement.{statement}
 use Rattle.vars.proofs.eq_restricted_var.Tie as tie
+
+both-bare : tie.Need-returns
+unfolding by-bare
+both-bare c =
+    let right = c .before .before .before .before .before in
+    sym (by-sides _ _ (sym (right .before .bare-var .ensures) ∙ c .before .before .before .left .given .1) (sym (right .bare-var2 .ensures) ∙ c .enum-told .given .1))
+
+left-bare : tie.Need-returns-2
+unfolding by-bare
+left-bare c =
+    let right = c .before .before .before .before .before .before in
+    c .unless .ensures
+    ∙ sym (by-sides _ _ (sym (right .before .bare-var .ensures) ∙ c .before .before .before .before .left .given .1) (sym (right .bare-var2 .ensures) ∙ c .before .enum-told2 .given .1))
+
+right-bare : tie.Need-returns-3
+unfolding by-bare
+right-bare c =
+    let right = c .before .before .before .before .before .before in
+    c .unless2 .ensures
+    ∙ sym (by-sides _ _ (sym (right .before .bare-var .ensures) ∙ c .before .before .before .before .enum-told3 .given .1) (sym (right .bare-var2 .ensures) ∙ c .before .before .right .given .1))
+
+neither-bare : tie.Need-returns-4
+unfolding by-bare
+neither-bare c =
+    let right = c .before .before .before .before in
+    sym (by-sides _ _ (sym (right .before .bare-var .ensures) ∙ c .before .before .enum-told3 .given .1) (sym (right .bare-var2 .ensures) ∙ c .enum-told4 .given .1))
 
 pub eq-restricted-var-spec : {M : Type 1} → statement M
 eq-restricted-var-spec =
     tie.close
     (tie.spec
-    (λ c. sym (tied-other _ _ _ (c .if1 .taken)))
-    (λ c κs. search needs)
+    (λ c κs. c .pre .0)
+    (λ c κs. c .before .pre .1)
+    (λ c. search needs)
+    (λ c. search needs)
     (λ c. search needs)
     (λ c κs. search needs)
     (λ c. search needs)
-    (λ c κs. search needs)
     (λ c. search needs)
     (λ c κs. search needs)
     (λ c. search needs)
-    (λ c. sym (tied-left _ _ _ (c .before .before .before .before .before .before .if1 .left) (sym (c .before .before .before .before .before .bare-var .ensures) ∙ c .before .before .before .x .given .1) (sym (c .before .is-restrictor .ensures) ∙ c .if2 .taken)))
-    (λ c. sym (tied-left-not _ _ _ (c .before .before .before .before .before .before .if1 .left) (sym (c .before .before .before .before .before .bare-var .ensures) ∙ c .before .before .before .x .given .1) (sym (c .before .is-restrictor .ensures) ∙ c .if2 .left)))
-    (λ c. sym (tied-right _ _ _ (c .before .before .before .before .before .before .before .before .before .if1 .left) (sym (c .before .before .before .before .before .before .before .before .bare-var .ensures) ∙ c .before .before .before .before .before .before .enum-told .given .1) (sym (c .before .before .before .before .before .bare-var2 .ensures) ∙ c .before .before .before .y .given .1) (sym (c .before .is-restrictor2 .ensures) ∙ c .if3 .taken)))
-    (λ c. sym (tied-right-not _ _ _ (c .before .before .before .before .before .before .before .before .before .if1 .left) (sym (c .before .before .before .before .before .before .before .before .bare-var .ensures) ∙ c .before .before .before .before .before .before .enum-told .given .1) (sym (c .before .before .before .before .before .bare-var2 .ensures) ∙ c .before .before .before .y .given .1) (sym (c .before .is-restrictor2 .ensures) ∙ c .if3 .left)))
-    (λ c. sym (tied-neither _ _ _ (sym (c .before .before .before .before .before .bare-var .ensures) ∙ c .before .before .before .enum-told .given .1) (sym (c .before .before .bare-var2 .ensures) ∙ c .enum-told2 .given .1))))
+    both-bare
+    left-bare
+    right-bare
+    neither-bare)
