@@ -1,6 +1,6 @@
 //! Document 01's list: every rule that is not met, with its node and its name, in its order. What stands in quotes is document 01's text.
 
-use crate::names::{ascending, is_sigil, named, Names};
+use crate::names::{ascending, is_sigil, named, Equality, Names, EQUALITY};
 use crate::record::{NameNumber, Node, NodeNumber, Record, Slot};
 
 #[derive(Debug, Clone, Copy, PartialEq, Eq)]
@@ -245,11 +245,16 @@ impl Demands<'_> {
     /// names of the left, tied or restricted by the right."
     fn ask(&mut self, number: NodeNumber, tied: Names) {
         let (rule, demanded) = match self.record.node(number) {
-            Node::Comparison { op, left, right } => match self.record.binding(op, left, right) {
-                Some(binding) => (30, self.record.free(binding.value)),
-                None => (31, self.record.free(number)),
+            Node::Comparison {
+                op: EQUALITY,
+                left,
+                right,
+            } => match self.record.equality(left, right) {
+                Equality::Left(_) => (30, self.record.free(right)),
+                Equality::Right(_) => (30, self.record.free(left)),
+                Equality::Nothing(_) => (31, self.record.free(number)),
             },
-            Node::Not { .. } => (31, self.record.free(number)),
+            Node::Comparison { .. } | Node::Not { .. } => (31, self.record.free(number)),
             Node::Since { left, right, .. } => {
                 let restricted = self.record.restricted(right);
                 (32, self.record.free(left) & !restricted)

@@ -1,4 +1,5 @@
-//! Document 01's free and restricted names, and what holds a sigil. What stands in quotes is document 01's text.
+//! Document 01's free and restricted names, and what holds a sigil. What stands in quotes is document 01's text, or document 02's where that
+//! is said.
 
 use std::collections::BTreeSet;
 use std::iter;
@@ -8,7 +9,8 @@ use crate::record::{NameNumber, Node, NodeNumber, Record, Slot};
 /// A bit for each name of the table.
 pub type Names = u128;
 
-const EQUALITY: u8 = 0;
+/// "Comparison op 0 is equality".
+pub const EQUALITY: u8 = 0;
 
 pub fn only(name: NameNumber) -> Names {
     1 << name.0
@@ -36,10 +38,21 @@ pub fn ascending(mut names: Names) -> impl Iterator<Item = NameNumber> {
     })
 }
 
-/// The side of a binding equality that its name is bound to, and the name.
-pub struct Binding {
-    pub name: NameNumber,
-    pub value: NodeNumber,
+/// What an equality ties. Document 02, W-205: "which side is tied, or which of four reasons holds".
+#[derive(Debug, Clone, Copy, PartialEq, Eq)]
+pub enum Equality {
+    Left(NameNumber),
+    Right(NameNumber),
+    Nothing(Reason),
+}
+
+/// Why an equality ties nothing. Document 02, W-205: "both bare, neither bare, wildcard, arithmetic with a wildcard".
+#[derive(Debug, Clone, Copy, PartialEq, Eq)]
+pub enum Reason {
+    BothBare,
+    NeitherBare,
+    Wildcard,
+    Arithmetic,
 }
 
 pub struct BinderCell {
@@ -104,9 +117,11 @@ impl Record {
             Node::Formerly { body, .. } | Node::Previous { body, .. } => self.restricted(body),
             Node::Since { right, .. } => self.restricted(right),
             Node::Exists { slot, body, .. } => self.restricted(body) & !named(slot),
-            Node::Comparison { op, left, right } => self
-                .binding(op, left, right)
-                .map_or(0, |binding| only(binding.name)),
+            Node::Comparison {
+                op: EQUALITY,
+                left,
+                right,
+            } => tied_by(self.equality(left, right)),
             Node::Predicate { arguments, .. } => self.direct(arguments),
             Node::Refine { base, arguments } => self.restricted(base) | self.direct(arguments),
             Node::Tp { slot } => named(slot),
@@ -114,17 +129,31 @@ impl Record {
         }
     }
 
-    /// Of "an equality with exactly one bare variable".
-    pub fn binding(&self, op: u8, left: NodeNumber, right: NodeNumber) -> Option<Binding> {
-        if op != EQUALITY {
-            return None;
-        }
-        let (name, value) = match (self.bare(left), self.bare(right)) {
-            (Some(name), None) => (name, right),
-            (None, Some(name)) => (name, left),
-            _ => return None,
+    /// Of "an equality with exactly one bare variable", or with two or none. It gets no op: who asks has looked at that.
+    pub fn equality(&self, left: NodeNumber, right: NodeNumber) -> Equality {
+        let (tied, other_side) = match (self.bare(left), self.bare(right)) {
+            (Some(_), Some(_)) => return Equality::Nothing(Reason::BothBare),
+            (None, None) => return Equality::Nothing(Reason::NeitherBare),
+            (Some(name), None) => (Equality::Left(name), right),
+            (None, Some(name)) => (Equality::Right(name), left),
         };
-        (!self.is_open(value)).then_some(Binding { name, value })
+        self.why_open(other_side).map_or(tied, Equality::Nothing)
+    }
+
+    /// Every comparison with op 0, ascending by node, and what it ties. Where it stands has no effect.
+    pub fn equalities(&self) -> Vec<(NodeNumber, Equality)> {
+        (0..)
+            .map(NodeNumber)
+            .zip(&self.nodes)
+            .filter_map(|(number, node)| match *node {
+                Node::Comparison {
+                    op: EQUALITY,
+                    left,
+                    right,
+                } => Some((number, self.equality(left, right))),
+                _ => None,
+            })
+            .collect()
     }
 
     fn bare(&self, term: NodeNumber) -> Option<NameNumber> {
@@ -135,11 +164,11 @@ impl Record {
     }
 
     /// "A wildcard or arithmetic containing one": an array that has one is a value.
-    fn is_open(&self, term: NodeNumber) -> bool {
+    fn why_open(&self, term: NodeNumber) -> Option<Reason> {
         match self.node(term) {
-            Node::Wildcard => true,
-            Node::Arith { .. } => self.has_wildcard(term),
-            _ => false,
+            Node::Wildcard => Some(Reason::Wildcard),
+            Node::Arith { .. } => self.has_wildcard(term).then_some(Reason::Arithmetic),
+            _ => None,
         }
     }
 
@@ -187,6 +216,13 @@ impl Record {
                 .children()
                 .into_iter()
                 .any(|child| self.holds_sigil(child))
+    }
+}
+
+fn tied_by(equality: Equality) -> Names {
+    match equality {
+        Equality::Left(name) | Equality::Right(name) => only(name),
+        Equality::Nothing(_) => 0,
     }
 }
 
