@@ -3,7 +3,8 @@
 use std::fmt::Display;
 
 use plain::lists::Entry;
-use plain::Refusal;
+use plain::names::{Equality, Reason};
+use plain::{NodeNumber, Refusal};
 
 use crate::sample::{Answers, Input};
 
@@ -13,15 +14,25 @@ const NO_NAME: u8 = 255;
 
 const HEAD: &str = "\
 -- What the definitions say of each input, and what a plain second implementation says: the same, by computation.
-use Prim.Native.Nat.{ℕ}
+use Prim.Native.Nat.{ℕ, zero, suc}
 use mathlib.Core.Path.{_≡_, refl}
 use mathlib.Core.Bool.{Bool, false, _||_}
-use mathlib.Core.List.{List, [], _∷_, map}
+use mathlib.Core.List.{List, [], _∷_, _++_, map}
 use lib.Dec.{eqb}
 use lib.ListN.{length}
+use Rattle.paper.specs.declared.NodeNo.{NodeNo}
+use Rattle.paper.specs.declared.Node.{Node}
 use Rattle.paper.specs.declared.Verdict.{Verdict}
 use Rattle.paper.specs.declared.Verdict.the-variants.{Counts, Refused}
-use Rattle.paper.specs.TurnedAway.{read, verdict}
+use Rattle.paper.specs.declared.Reason.the-variants as reason
+use Rattle.paper.specs.declared.Equality.{Equality}
+use Rattle.paper.specs.declared.Equality.the-variants.{Left, Right, Nothing}
+use Rattle.paper.specs.Record.{pick, node-no, name-no}
+use Rattle.paper.specs.TurnedAway as reader
+use Rattle.paper.specs.TurnedAway.{Outcome, read, verdict}
+use Rattle.paper.specs.Tree.{Condition, as-condition, tree-at}
+use Rattle.paper.specs.Tree.Condition.{And, Or, Not, Past, Since, Exists, Comparison, Predicate, Refine, Tp, Opaque}
+use Rattle.paper.specs.FreeAndRestricted.{equality, is-equality}
 use Rattle.paper.specs.Questions as questions
 use Rattle.paper.specs.Questions.{Numbers, answer-numbers, arithmetic-numbers, listing-numbers}
 ";
@@ -34,6 +45,11 @@ pub record Input : Type 0 where
   pub lent : List ℕ
   pub number : ℕ
 
+-- a comparison with op 0, and what the equality test says of it
+pub record Tested : Type 0 where
+  pub node : NodeNo
+  pub says : Equality
+
 pub record Told : Type 0 where
   pub counted : Verdict
   pub listed : Numbers
@@ -43,10 +59,33 @@ pub record Told : Type 0 where
   pub closedness : Numbers
   pub demands : Numbers
   pub name : List ℕ
+  pub equalities : List Tested
 
 unfoldable pub among : List ℕ → ℕ → Bool
 among [] k = false
 among (x ∷ xs) k = eqb k x || among xs k
+
+unfoldable pub if-equality : Condition → List Tested
+if-equality (Comparison n o l r) = pick (is-equality o) (record { node = n; says = equality l r } ∷ []) []
+if-equality (And n l r) = []
+if-equality (Or n l r) = []
+if-equality (Not n b) = []
+if-equality (Past n k b w) = []
+if-equality (Since n l r w) = []
+if-equality (Exists n s y b) = []
+if-equality (Predicate n a l) = []
+if-equality (Refine n b l) = []
+if-equality (Tp n s) = []
+if-equality (Opaque n k y) = []
+
+-- among the first n nodes, ascending; what is no condition is taken for a predicate, and so left out
+unfoldable pub equalities-below : List Node → ℕ → List Tested
+equalities-below nodes zero = []
+equalities-below nodes (suc n) = equalities-below nodes n ++ if-equality (as-condition (tree-at nodes n))
+
+unfoldable pub equalities-of : Outcome → List Tested
+equalities-of (reader.refused number offset) = []
+equalities-of (reader.accepted c) = equalities-below (c .nodes) (length (c .nodes))
 
 unfoldable pub told : Input → Told
 told i =
@@ -59,6 +98,7 @@ told i =
       closedness = answer-numbers (questions.closedness (i .bytes));
       demands = answer-numbers (questions.demands (i .bytes));
       name = questions.name (i .bytes) (i .number);
+      equalities = equalities-of (read (i .bytes));
     }
 
 abbrev asked : List ℕ → List ℕ → List ℕ → ℕ → Input
@@ -67,8 +107,11 @@ asked bytes scope lent number = record { bytes = bytes; scope = scope; lent = le
 abbrev numbers : ℕ → ℕ → ℕ → Numbers
 numbers number place name = record { number = number; place = place; name = name }
 
-abbrev accepted : Verdict → Numbers → List ℕ → Numbers → Numbers → Numbers → Numbers → List ℕ → Told
-accepted counts listing buffer yes-or-no first-20-to-27 first-28 first-30-to-32 text =
+abbrev tested : ℕ → Equality → Tested
+tested node says = record { node = node-no node; says = says }
+
+abbrev accepted : Verdict → Numbers → List ℕ → Numbers → Numbers → Numbers → Numbers → List ℕ → List Tested → Told
+accepted counts listing buffer yes-or-no first-20-to-27 first-28 first-30-to-32 text each-tested =
     record {
       counted = counts;
       listed = listing;
@@ -78,6 +121,7 @@ accepted counts listing buffer yes-or-no first-20-to-27 first-28 first-30-to-32 
       closedness = first-28;
       demands = first-30-to-32;
       name = text;
+      equalities = each-tested;
     }
 
 abbrev refused : ℕ → ℕ → List ℕ → Told
@@ -91,6 +135,7 @@ refused number offset buffer =
       closedness = numbers number offset 255;
       demands = numbers number offset 255;
       name = [];
+      equalities = [];
     }
 ";
 
@@ -126,7 +171,7 @@ group-{number} :
     map told
     {}
     ≡ {}
-unfolding computed among told
+unfolding computed among if-equality equalities-below equalities-of told
 group-{number} = refl
 ",
         list(asked),
@@ -151,7 +196,7 @@ fn told(input: &Input) -> String {
             format!("refused {number} {offset} {}", list(&input.lent))
         }
         Answers::Accepted(accepted) => format!(
-            "accepted (Counts {} {}) {} {} {} {} {} {} {}",
+            "accepted (Counts {} {}) {} {} {} {} {} {} {} {}",
             accepted.names,
             accepted.nodes,
             listing(accepted.entries, input.lent.len()),
@@ -160,7 +205,8 @@ fn told(input: &Input) -> String {
             first(accepted.scoping),
             first(accepted.closedness),
             first(accepted.demands),
-            list(accepted.name.bytes())
+            list(accepted.name.bytes()),
+            list(accepted.equalities.into_iter().map(tested))
         ),
     }
 }
@@ -178,6 +224,24 @@ fn first(entry: Option<Entry>) -> String {
     match entry {
         None => numbers(0, 0, NO_NAME),
         Some(entry) => numbers(entry.rule, entry.node, entry.name.unwrap_or(NO_NAME)),
+    }
+}
+
+fn tested((node, equality): (NodeNumber, Equality)) -> String {
+    let says = match equality {
+        Equality::Left(name) => format!("Left (name-no {})", name.0),
+        Equality::Right(name) => format!("Right (name-no {})", name.0),
+        Equality::Nothing(reason) => format!("Nothing {}", variant(reason)),
+    };
+    format!("tested {} ({says})", node.0)
+}
+
+fn variant(reason: Reason) -> &'static str {
+    match reason {
+        Reason::BothBare => "reason.BothBare",
+        Reason::NeitherBare => "reason.NeitherBare",
+        Reason::Wildcard => "reason.Wildcard",
+        Reason::Arithmetic => "reason.Arithmetic",
     }
 }
 

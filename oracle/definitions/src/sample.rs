@@ -1,8 +1,9 @@
 //! Inputs at random, and the plain answers to them.
 
 use plain::lists::{self, pack, Entry};
+use plain::names::Equality;
 use plain::random::{damaged, noise, record, Rng};
-use plain::{read, Record, Refusal};
+use plain::{read, NodeNumber, Record, Refusal};
 
 const MOST_NODES: usize = 25;
 const MOST_NAMES: usize = 128;
@@ -82,6 +83,7 @@ pub struct Accepted {
     pub closedness: Option<Entry>,
     pub demands: Option<Entry>,
     pub name: String,
+    pub equalities: Vec<(NodeNumber, Equality)>,
 }
 
 impl Answers {
@@ -106,6 +108,7 @@ impl Accepted {
             closedness: lists::closedness(record).first().copied(),
             demands: lists::demands(record).first().copied(),
             name: record.names.get(input.name).cloned().unwrap_or_default(),
+            equalities: record.equalities(),
         }
     }
 }
@@ -120,12 +123,39 @@ fn filled(lent: &[u32], list: &[u32]) -> Vec<u32> {
 
 #[cfg(test)]
 mod tests {
-    use super::filled;
+    use plain::names::{Equality, Reason};
+
+    use super::{filled, Answers, Sample};
+
+    const INPUTS_OF_THE_GATE: usize = 1000;
+    const SEED_OF_THE_GATE: u64 = 1;
 
     #[test]
     fn a_list_changes_the_first_entries_or_none() {
         assert_eq!(filled(&[7, 8, 9], &[1, 2]), [1, 2, 9]);
         assert_eq!(filled(&[7, 8], &[1, 2]), [1, 2]);
         assert_eq!(filled(&[7], &[1, 2]), [7]);
+    }
+
+    #[test]
+    fn in_the_gate_equalities_tie_either_side_or_nothing_for_every_reason() {
+        let said: Vec<Equality> = Sample::new(SEED_OF_THE_GATE)
+            .take(INPUTS_OF_THE_GATE)
+            .flat_map(|input| match Answers::to(&input) {
+                Answers::Refused(_) => Vec::new(),
+                Answers::Accepted(accepted) => accepted.equalities,
+            })
+            .map(|(_, equality)| equality)
+            .collect();
+        assert!(said.iter().any(|said| matches!(said, Equality::Left(_))));
+        assert!(said.iter().any(|said| matches!(said, Equality::Right(_))));
+        for reason in [
+            Reason::BothBare,
+            Reason::NeitherBare,
+            Reason::Wildcard,
+            Reason::Arithmetic,
+        ] {
+            assert!(said.contains(&Equality::Nothing(reason)), "{reason:?}");
+        }
     }
 }
