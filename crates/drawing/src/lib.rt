@@ -2,7 +2,8 @@
 mod lines;
 mod shape;
 
-use labels::find::node;
+use labels::children::children_of;
+use lookup::node;
 use paper::NodeNo;
 use shape::Role;
 ghost use Prim.Native.Nat.{_+_, _≤_};
@@ -16,7 +17,7 @@ fn draw(bytes: &[u8], entries: &[u32], i: NodeNo, depth: usize, role: Role)
         lines::node_line(bytes, i, n, depth, role);
         lines::marks(bytes, entries, i);
     }
-    let children = shape::children_of(n);
+    let children = children_of(n);
     let first = children.first;
     let second = children.second;
     let deeper = depth + shape::step(n);

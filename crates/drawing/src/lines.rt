@@ -4,6 +4,7 @@ use labels::text::about;
 use labels::text::alone;
 use paper::Node;
 use paper::NodeNo;
+use untied::behind;
 use wording::rules::wrong;
 use wording::say::number;
 use wording::say::text;
@@ -66,8 +67,9 @@ fn each_mark(bytes: &[u8], entries: &[u32], i: NodeNo) {
     }
 }
 
-// The entries of the node, at the end of its line.
+// The entries of the node, at the end of its line, and why it ties nothing if it is an equality that does.
 pub fn marks(bytes: &[u8], entries: &[u32], i: NodeNo) {
     each_mark(bytes, entries, i);
+    behind(bytes, i);
     text(b"\n");
 }

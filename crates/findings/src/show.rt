@@ -8,6 +8,7 @@ use paper::NodeNo;
 use paper::Verdict;
 use questions::arithmetic;
 use record::reader::read;
+use untied::below;
 use wording::refusals;
 use wording::rules;
 use wording::say::counted;
@@ -33,7 +34,7 @@ fn numbers(entries: &[u32]) {
     }
 }
 
-// An entry: a line for where, what and why, and one on how to mend it.
+// An entry: a line for where, what and why, one on how to mend it, and what there is to say of equalities.
 fn block(record: &[u8], entry: u32) {
     let f = unpack(entry);
     let rule = f.rule;
@@ -52,6 +53,7 @@ fn block(record: &[u8], entry: u32) {
     text(b".\n   Mend: ");
     rules::mend(rule, name);
     text(b"\n");
+    below(record, f);
 }
 
 fn blocks(record: &[u8], entries: &[u32]) {
@@ -164,7 +166,8 @@ named. Says what is wrong with the rule, where, and how to mend it. The last\n\
 line is the number of findings, or `accepted`.\n\
 \n\
 \x20\x20--numbers   each finding as document 01's number, one to a line\n\
-\x20\x20--tree      the rule as a tree, each finding on the line of its node\n\
+\x20\x20--tree      the rule as a tree, each finding on the line of its node (behind !),\n\
+\x20\x20            and why an equality ties nothing on the line of that (behind ~)\n\
 \x20\x20--help      this text\n\
 \n\
 To tie a name is to give it a value: by an event that has it as an argument, by\n\

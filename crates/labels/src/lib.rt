@@ -1,4 +1,4 @@
 // What stands at a node of a record, in words.
-pub mod find;
+pub mod children;
 mod kinds;
 pub mod text;

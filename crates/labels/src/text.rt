@@ -1,8 +1,8 @@
 // A node on a line: its kind by document 01's word, with the names and the numbers that stand in it.
-use crate::find::node;
 use crate::kinds::Detail;
 use crate::kinds::detail_of;
 use crate::kinds::kind;
+use lookup::node;
 use paper::Node;
 use paper::NodeNo;
 use paper::Slot;

@@ -8,12 +8,12 @@ use Rattle.drawing.proofs.draw.Kinds as draw-kinds
 use Rattle.drawing.proofs.+draw.Lts-draw as draw-lts
 use Rattle.drawing.proofs.lines.marks.Reads as marks-reads
 use Rattle.drawing.proofs.lines.node_line.Reads as node-line-reads
-use Rattle.drawing.proofs.shape.children_of.Reads as children-of-reads
+use Rattle.labels.proofs.children.children_of.Reads as children-of-reads
 use Rattle.drawing.proofs.shape.first_role.Reads as first-role-reads
 use Rattle.drawing.proofs.shape.has_line.Reads as has-line-reads
 use Rattle.drawing.proofs.shape.second_role.Reads as second-role-reads
 use Rattle.drawing.proofs.shape.step.Reads as step-reads
-use Rattle.labels.proofs.find.node.Reads as node-reads
+use Rattle.lookup.proofs.node.Reads as node-reads
 use Rattle.drawing.proofs.+draw.{statement}
 use Rattle.drawing.proofs.+draw.Tie.{close}
 
