@@ -45,7 +45,7 @@ ghost use Rattle.trees.specs.Terms.{Tabled};
 ghost use Rattle.known.specs.Needs.{slot-in};
 ghost use Rattle.known.specs.declared.Parts.the-variants.{Leaf};
 ghost use Rattle.known.specs.Known.{parts-of, nodes-of, own, gathered as gathered-facts};
-ghost use Rattle.known.specs.Rows.{meant, facts-at, node-of, Sound};
+ghost use Rattle.known.specs.Rows.{meant, node-of, Sound};
 
 // What is known of a node that has no parts.
 pub fn leaf_facts(columns: &[u64; 513], i: NodeNo) -> Facts

@@ -1,11 +1,7 @@
 -- What is known of a node's tree is what its parts give (`planted-known`). Assumes nothing.
 use mathlib.Core.Path.{_≡_, refl, sym, ap, ap₂, _∙_, fun-ext}
 use mathlib.Core.Bool.{Bool, true, false, _||_, true≢false}
-use mathlib.Core.List.{List, [], _∷_}
 use Prim.Native.Nat.{ℕ}
-use types.Run.{OneOf, miss}
-use denote.Enum.Declared.{tagOf}
-use Rattle.paper.proofs.Node.{the-type}
 use Rattle.paper.specs.declared.NodeNo.{NodeNo}
 use Rattle.paper.specs.declared.Node.{Node}
 use Rattle.paper.specs.declared.Node.the-variants as node
@@ -21,7 +17,6 @@ use Rattle.paper.specs.FreeAndRestricted.{is-sigil, binder-names, free, term-fr
 use Rattle.paper.proofs.Walks.{All}
 use Rattle.paper.proofs.Weights.{of-sort}
 use Rattle.trees.specs.Trees.{is-condition, is-term}
-use Rattle.trees.proofs.ByKind.{by-kind}
 use Rattle.paper.specs.Scoping.{binder-sigil}
 use Rattle.known.specs.Needs.{slot-in, owes, need, hard, unfit, computed, arguments-computed, items-computed, reckoned, broken, binds, unclosed}
 use Rattle.known.specs.Known.{Known, nothing, way, from-parts, parts-of, opaque, naming, both, join, searched, loose, refined, bound, gathered, and-known, or-known, arith-known, since-known, compared, equated, condition-known, term-known, arguments-known, items-known, known-of, own}

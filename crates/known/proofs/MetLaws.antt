@@ -1,30 +1,26 @@
 -- Where a condition is not hard and its need is tied, no demand below it is unmet (`met-condition`, `met-operand`): the walk of demands may pass over it. Assumes nothing.
 use mathlib.Core.Path.{_≡_, refl, sym, ap, ap₂, _∙_}
-use mathlib.Core.Bool.{Bool, true, false, not, _||_, _&&_, true≢false}
+use mathlib.Core.Bool.{Bool, true, false, true≢false}
 use mathlib.Core.List.{List, [], _∷_, _++_}
-use Prim.Native.Nat.{ℕ, _<_}
+use Prim.Native.Nat.{ℕ}
 use Rattle.paper.specs.declared.NodeNo.{NodeNo}
 use Rattle.paper.specs.declared.Finding.{Finding}
-use Rattle.paper.specs.declared.Slot.{Slot}
-use Rattle.paper.specs.declared.Slot.the-variants as slot
 use Rattle.paper.specs.declared.Equality.{Equality}
 use Rattle.paper.specs.declared.Equality.the-variants.{Left, Right, Nothing}
-use Rattle.paper.specs.Record.{pick, name-no}
-use Rattle.paper.specs.Sets.{Set, none, only, _∪_, _∖_, outside, members}
-use Rattle.paper.specs.Tree.{Condition, Term, Binders, Tree, as-condition, as-term}
+use Rattle.paper.specs.Record.{pick}
+use Rattle.paper.specs.Sets.{Set, _∪_, _∖_}
+use Rattle.paper.specs.Tree.{Condition, Term, Tree, as-condition, as-term}
 use Rattle.paper.specs.Tree.Condition.{And, Or, Not, Past, Since, Exists, Comparison, Predicate, Refine, Tp, Opaque}
 use Rattle.paper.specs.Tree.Term.{Var, Wildcard, Value, Sigil, Array, Arith, Sum, Count, AggregateCall}
-use Rattle.paper.specs.Tree.Binders.{no-binder, binder}
 use Rattle.paper.specs.FreeAndRestricted.{named, binder-names, free, term-free, restricted, equality, is-equality}
-use Rattle.paper.specs.Places.{Spot, condition, operand, Place, asked-at, Broken, for-names, gather, findings, found}
+use Rattle.paper.specs.Places.{Spot, condition, operand, Place, Broken, for-names, gather, findings, found}
 use Rattle.paper.specs.Demands.{equality-broken, other-broken, demand-below, demand-broken}
-use Rattle.paper.proofs.SetLaws.{all-get, members-none}
 use Rattle.paper.proofs.Walks.{found-at}
 use Rattle.paper.proofs.Exact.{extent-pos, demand-shrinks}
 use Rattle.trees.specs.Trees.{is-condition, is-term}
 use Rattle.known.specs.Known.{Known, condition-known, term-known, known-of}
 use Rattle.known.proofs.KnownLaws.{condition-is, term-is}
-use Rattle.known.specs.Needs.{slot-in, binder-in, has-none, owes, need, term-need, hard, term-hard, met}
+use Rattle.known.specs.Needs.{slot-in, binder-in, owes, need, term-need, hard, term-hard, met}
 use Rattle.known.proofs.Covers.{Covers, covers-left, covers-right, covers-eased, covers-bound, none-left, has-none-covers, or-none, slot-out, binder-out}
 
 abbrev from : Bool → Spot → Set → List Finding

@@ -20,7 +20,6 @@ use Rattle.paper.specs.Record.{pick, node-no}
 use Rattle.paper.specs.Sets.{Set, none, _∪_, _∖_}
 use Rattle.paper.specs.TurnedAway.{Contents}
 use Rattle.paper.specs.Tree.{Condition, Term, Tree, as-condition, as-term, planted, root}
-use Rattle.paper.specs.Tree.{Condition as cond}
 use Rattle.known.specs.Needs.{met}
 use Rattle.known.specs.Known.{known-of}
 use Rattle.known.proofs.MetLaws.{met-body, met-term}

@@ -1,5 +1,5 @@
--- What an equality ties, or why nothing (document 02, W-205): that it ties what document 01's binding equality gives and nothing else, and that what a comparison restricts
--- and owes is what it was before the reasons were told. Assumes nothing.
+-- What an equality ties, or why nothing (document 02, W-205): some pairs of terms, computed; what a comparison breaks; and that an equality ties what document 01's binding
+-- equality gives and nothing else. Assumes nothing.
 use Prim.Native.Nat.{ℕ}
 use mathlib.Core.Path.{_≡_, refl, sym, _∙_}
 use mathlib.Core.Bool.{Bool, true, false, _||_, true≢false}
@@ -127,7 +127,7 @@ pub record Binding (variable other : Term) (x : NameNo) : Type 0 where
   pub exactly-one : bare other ≡ NoName
   pub unless-open : (why : Reason) → Open why other → ⊥
 
--- where the other side is
+-- one side is a bare variable, and the other is open
 pub data Opposed (why : Reason) (l r : Term) : Type 0 where
   on-right : {x : NameNo} → bare l ≡ Name x → Open why r → Opposed why l r
   on-left : {x : NameNo} → bare r ≡ Name x → Open why l → Opposed why l r
@@ -166,18 +166,15 @@ pub means : (l r : Term) → Means l r (equality l r)
 unfolding equality by-bare
 means l r = go (bare l) (bare r) refl refl
   where
-    opposed-right : {x : NameNo} → bare l ≡ Name x → (why : Reason) → Open why r → Means l r (Nothing why)
-    opposed-right e reason.Wildcard o = on-right e o
-    opposed-right e reason.Arithmetic o = on-right e o
-
-    opposed-left : {x : NameNo} → bare r ≡ Name x → (why : Reason) → Open why l → Means l r (Nothing why)
-    opposed-left e reason.Wildcard o = on-left e o
-    opposed-left e reason.Arithmetic o = on-left e o
+    -- the other two reasons are never those of an open side
+    opposed : (why : Reason) {t : Term} → Open why t → Opposed why l r → Means l r (Nothing why)
+    opposed reason.Wildcard o p = p
+    opposed reason.Arithmetic o p = p
 
     go : (p q : Subject) → bare l ≡ p → bare r ≡ q → Means l r (by-bare p q l r)
     go (Name x) (Name y) e d = (x, y, e, d)
-    go (Name x) NoName e d = unless-cases (Means l r) r (λ shut. record { is-bare = e; exactly-one = d; unless-open = shut }) (opposed-right e)
-    go NoName (Name y) e d = unless-cases (Means l r) l (λ shut. record { is-bare = d; exactly-one = e; unless-open = shut }) (opposed-left d)
+    go (Name x) NoName e d = unless-cases (Means l r) r (λ shut. record { is-bare = e; exactly-one = d; unless-open = shut }) (λ why o. opposed why o (on-right e o))
+    go NoName (Name y) e d = unless-cases (Means l r) l (λ shut. record { is-bare = d; exactly-one = e; unless-open = shut }) (λ why o. opposed why o (on-left d o))
     go NoName NoName e d = (e, d)
 
 -- and document 01's binding equality is one of them
