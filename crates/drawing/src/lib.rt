@@ -1,4 +1,5 @@
 // The condition of a record as a tree, a line for each node, with each entry on the line of the node that it is about.
+#![tactic(auto)]
 mod lines;
 mod shape;
 

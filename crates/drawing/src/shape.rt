@@ -22,7 +22,7 @@ pub fn step(n: Node) -> usize
 }
 
 // What a child is to the node that has it, where the tree says it.
-#[derive(Drop)]
+#[derive(Clone, Copy)]
 pub enum Role {
     Plain,
     Argument(u16),

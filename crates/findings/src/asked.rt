@@ -1,7 +1,7 @@
 // What the program's arguments ask for.
 use check::same;
 
-#[derive(Drop)]
+#[derive(Clone, Copy)]
 pub enum Mode {
     Words,
     Numbers,
@@ -10,7 +10,7 @@ pub enum Mode {
 }
 
 // What is wrong with the arguments, and with which of them.
-#[derive(Drop)]
+#[derive(Clone, Copy)]
 pub enum Fault {
     Nothing,
     Option(usize),
@@ -19,14 +19,14 @@ pub enum Fault {
 }
 
 // The file is an argument's number; 0 is standard input.
-#[derive(Drop)]
+#[derive(Clone, Copy)]
 pub struct Asked {
     pub mode: Mode,
     pub file: usize,
     pub fault: Fault,
 }
 
-#[derive(Drop)]
+#[derive(Clone, Copy)]
 enum Word {
     Mode(Mode),
     Unknown,

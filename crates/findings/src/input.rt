@@ -1,7 +1,7 @@
 // The bytes of a file or of standard input, and what is said of a file on standard error.
 use libc::{STDERR_FILENO, STDIN_FILENO};
 
-#[derive(Drop)]
+#[derive(Clone, Copy)]
 pub enum Input {
     Bytes(usize),
     TooLarge,

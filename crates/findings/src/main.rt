@@ -1,4 +1,5 @@
 // The list of one record, for the person who wrote the rule in it: `findings [--numbers | --tree] [FILE]`.
+#![tactic(auto)]
 mod asked;
 mod input;
 mod show;

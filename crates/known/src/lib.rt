@@ -1,4 +1,5 @@
 // What is known of a node: the facts that walks ask of it again and again, and the parts that they follow from.
+#![tactic(auto)]
 use names::Names;
 use paper::NodeNo;
 
@@ -15,7 +16,7 @@ pub const UNCLOSED: u64 = 16;
 
 pub const COMPUTED: u64 = 32;
 
-#[derive(Drop)]
+#[derive(Clone, Copy)]
 pub struct Facts {
     pub free: Names,
     pub restricted: Names,
@@ -24,7 +25,7 @@ pub struct Facts {
 }
 
 // The nodes that a node's facts follow from: conditions and terms, and lists of terms.
-#[derive(Drop)]
+#[derive(Clone, Copy)]
 pub enum Parts {
     Leaf,
     One(NodeNo),

@@ -4,7 +4,7 @@ ghost use Rattle.std.specs.Prelude.{◌≡◌};
 use paper::{Node, NodeNo};
 
 // In their order, 65535 for none.
-#[derive(Drop)]
+#[derive(Clone, Copy)]
 pub struct Children {
     pub first: NodeNo,
     pub second: NodeNo,

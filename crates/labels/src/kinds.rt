@@ -36,7 +36,7 @@ pub fn kind(n: Node) -> u8 {
     }
 }
 
-#[derive(Drop)]
+#[derive(Clone, Copy)]
 pub enum Detail {
     Nothing,
     Number(u16),

@@ -1,4 +1,5 @@
 // What stands at a node of a record, in words.
+#![tactic(auto)]
 pub mod children;
 mod kinds;
 pub mod text;

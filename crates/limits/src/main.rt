@@ -1,4 +1,5 @@
 // The reader and the list at their limits: a line says what a record is, how long it is and what the reader says of it.
+#![tactic(auto)]
 mod put;
 mod say;
 

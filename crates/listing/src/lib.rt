@@ -1,4 +1,5 @@
 // The three parts of the list: one of them, or one after the other.
+#![tactic(auto)]
 ghost use Rattle.std.specs.Prelude.{◌≡◌, true, []};
 ghost use Rattle.names.specs.Words.{mem};
 ghost use Rattle.record.specs.Stored.{Has};
@@ -15,7 +16,7 @@ use rows::read::{body_has_sigil, collect_free, is_met, is_sound};
 use scoping::check_condition;
 
 // What one part of the list is asked for.
-#[derive(Drop)]
+#[derive(Clone, Copy)]
 pub enum Check {
     Scoping { seed: Names, words: Names },
     Closedness,

@@ -1,5 +1,6 @@
 // A node of a record by its number: what it is, and what it ties if it is an equality. As the name lookup does, each function reads the record again, which takes
 // microseconds, so that nobody has to carry where its nodes lie.
+#![tactic(auto)]
 ghost use Rattle.std.specs.Prelude.{◌≡◌, length, get_or};
 ghost use Rattle.paper.specs.declared.Node.TheVariants.{ListEnd};
 ghost use Rattle.paper.specs.Tree.{as_condition, tree_at};
@@ -15,7 +16,7 @@ use vars::eq_restricted_var;
 use views::{Owing, owing_at};
 
 // What a node answers that is asked what it ties.
-#[derive(Drop)]
+#[derive(Clone, Copy)]
 pub enum Asked {
     NoEquality,
     Equality(Equality),

@@ -1,4 +1,5 @@
 // Words of marks, where they are not one operation on those of the parts.
+#![tactic(auto)]
 ghost use Rattle.std.specs.Prelude.{◌≡◌, true, false, not, ◌||◌, ◌&&◌};
 ghost use Rattle.paper.specs.Record.{pick};
 ghost use Rattle.names.specs.Words.{bit};

@@ -1,11 +1,12 @@
 // What the reader keeps in memory, as types: definitions over them in specs/, laws in proofs/. No code.
+#![tactic(auto)]
 use names::Names;
 use paper::Verdict;
 
 // What a kind's record is made of. class: 0 nothing known, 1 the format record, 2 a name, 3 a node, 4 the end record. len: the bytes of the body.
 // range: what the first field is looked at for, 0 nothing, 1 a name's number, 2 an op of a comparison, 3 an op of arithmetic, 4 a slot. sort1 and
 // sort2: the sort of a reference, 0 none, 1 a condition, 2 a term, 3 arguments, 4 items, 5 binders; at1 and at2: where in the body it stands.
-#[derive(Drop)]
+#[derive(Clone, Copy)]
 pub struct Row {
     pub class: u8,
     pub len: u8,
@@ -17,7 +18,7 @@ pub struct Row {
 }
 
 // What a kind byte, and how much follows it, say of a record.
-#[derive(Drop)]
+#[derive(Clone, Copy)]
 pub enum Head {
     Bad(u8),
     Format,
@@ -27,21 +28,21 @@ pub enum Head {
 }
 
 // What the fields of a record say: a fault's number or 0, and the depth of the deepest child. The nodes referred to are marked in a lent array.
-#[derive(Drop)]
+#[derive(Clone, Copy)]
 pub struct Told {
     pub fault: u8,
     pub deep: u8,
 }
 
 // What a walk over the records comes to: the verdict, and which names of the table are reserved. Where nodes start is put into a lent array.
-#[derive(Drop)]
+#[derive(Clone, Copy)]
 pub struct Scanned {
     pub verdict: Verdict,
     pub reserved: Names,
 }
 
 // A node's record in numbers: its kind, and the two bytes at each place of its body.
-#[derive(Drop)]
+#[derive(Clone, Copy)]
 pub struct Numbers {
     pub kind: u16,
     pub p0: u16,

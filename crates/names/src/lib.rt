@@ -1,4 +1,6 @@
 // Sets of names, 128 of them in two words by value.
+#![tactic(auto)]
+
 ghost use Rattle.std.specs.Prelude.{◌≡◌, ◌<◌};
 ghost use Rattle.paper.specs.Sets.{none, only, ◌∪◌, ◌∩◌, ◌∖◌, outside, all_below};
 ghost use Rattle.names.specs.Words.{bit, mem};
@@ -8,7 +10,7 @@ ghost use Rattle.names.specs.Apart.{Apart};
 use paper::NameNo;
 
 // Bit k of lo is name k, bit k of hi is name 64 + k.
-#[derive(Drop)]
+#[derive(Clone, Copy)]
 pub struct Names {
     pub lo: u64,
     pub hi: u64,

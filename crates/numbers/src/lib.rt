@@ -1,4 +1,5 @@
 // An answer in document 01's numbers.
+#![tactic(auto)]
 ghost use Rattle.std.specs.Prelude.{◌≡◌, ◌<◌};
 ghost use Rattle.paper.specs.Questions.{answer_numbers, arithmetic_numbers, listing_numbers};
 ghost use Rattle.numbers.specs.Numbers.{asked};
@@ -9,7 +10,7 @@ use writes::name_or_255;
 
 // Document 01's numbers for an answer: a number, a place and a name.
 #[repr(C)]
-#[derive(Drop)]
+#[derive(Clone, Copy)]
 pub struct Asked {
     pub number: u32,
     pub place: u32,

@@ -1,4 +1,6 @@
 // Bytes and numbers of a slice at a place, for any place: past the end they are 0.
+#![tactic(auto)]
+
 ghost use Rattle.std.specs.Prelude.{◌≡◌, ◌+◌, ◌*◌, ◌<◌, ◌≤◌, length, drop, get_or};
 ghost use Rattle.octets.specs.Eights.{four as fourᵈ, eight as eightᵈ};
 

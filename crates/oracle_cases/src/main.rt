@@ -1,4 +1,5 @@
 // Replays the Rust's answers on the proved library. Standard input is the stored list; README.md beside it says how it is made.
+#![tactic(auto)]
 mod line;
 mod stored;
 mod tally;

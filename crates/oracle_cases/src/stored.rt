@@ -11,7 +11,7 @@ const ANSWERS: usize = 18;
 const RECORD: usize = 28;
 
 // A rule and the number of a name, as the Rust's answers are stored.
-#[derive(Drop)]
+#[derive(Clone, Copy)]
 pub struct Said {
     pub rule: u8,
     pub name: u8,

@@ -8,7 +8,7 @@ use std::num::wrapping_add_u64;
 const RULES: usize = 64;
 
 // So many cases so far, the answers that differed, and the cases that had such an answer.
-#[derive(Drop)]
+#[derive(Clone, Copy)]
 pub struct Run {
     pub cases: u64,
     pub told: u64,

@@ -143,23 +143,38 @@ Means l r (Nothing reason.Arithmetic) = Opposed reason.Arithmetic l r
 contained : {why : Reason} {n : NodeNo} {o : ℕ} {l r : Term} → Open why (Arith n o l r) → has_wildcard (Arith n o l r) ≡ true
 contained (arithmetic e) = e
 
+-- only a wildcard and arithmetic can be open
+abbrev MayBeOpen : Term → Type 0
+MayBeOpen (Var n x) = ⊥
+MayBeOpen (Wildcard n) = Unit {0}
+MayBeOpen (Value n k y) = ⊥
+MayBeOpen (Sigil n k i) = ⊥
+MayBeOpen (Array n l) = ⊥
+MayBeOpen (Arith n o l r) = Unit {0}
+MayBeOpen (Sum n s l b) = ⊥
+MayBeOpen (Count n l b) = ⊥
+MayBeOpen (AggregateCall n y) = ⊥
+
+may_be_open : (why : Reason) (t : Term) → Open why t → MayBeOpen t
+may_be_open why t o = elim o as (λ why t _. MayBeOpen t) [ wildcard ↦ tt | arithmetic e ↦ tt ]
+
 -- the side opposite a bare variable leaves what the equality gives, or is open and says why not
 module _ (P : Equality → Type 0) {gives : Equality} where
   pub unless_cases : (t : Term) → (((why : Reason) → Open why t → ⊥) → P gives) → ((why : Reason) → Open why t → P (Nothing why)) → P (unless t gives)
   unfolding unless has_wildcard
-  unless_cases (Var n x) tied untied = tied (λ why. elim [ ])
+  unless_cases (Var n x) tied untied = tied (λ why o. may_be_open why (Var n x) o)
   unless_cases (Wildcard n) tied untied = untied reason.Wildcard wildcard
-  unless_cases (Value n k y) tied untied = tied (λ why. elim [ ])
-  unless_cases (Sigil n k i) tied untied = tied (λ why. elim [ ])
-  unless_cases (Array n l) tied untied = tied (λ why. elim [ ])
+  unless_cases (Value n k y) tied untied = tied (λ why o. may_be_open why (Value n k y) o)
+  unless_cases (Sigil n k i) tied untied = tied (λ why o. may_be_open why (Sigil n k i) o)
+  unless_cases (Array n l) tied untied = tied (λ why o. may_be_open why (Array n l) o)
   unless_cases (Arith n o l r) tied untied = go (has_wildcard l || has_wildcard r) refl
     where
       go : (b : Bool) → (has_wildcard l || has_wildcard r) ≡ b → P (pick b (Nothing reason.Arithmetic) gives)
       go true e = untied reason.Arithmetic (arithmetic e)
       go false e = tied (λ why d. true≢false (sym (contained d) ∙ e))
-  unless_cases (Sum n s l b) tied untied = tied (λ why. elim [ ])
-  unless_cases (Count n l b) tied untied = tied (λ why. elim [ ])
-  unless_cases (AggregateCall n y) tied untied = tied (λ why. elim [ ])
+  unless_cases (Sum n s l b) tied untied = tied (λ why o. may_be_open why (Sum n s l b) o)
+  unless_cases (Count n l b) tied untied = tied (λ why o. may_be_open why (Count n l b) o)
+  unless_cases (AggregateCall n y) tied untied = tied (λ why o. may_be_open why (AggregateCall n y) o)
 
 -- each answer means what its name says, and the first two are document 01's binding equality
 pub means : (l r : Term) → Means l r (equality l r)
@@ -168,6 +183,8 @@ means l r = go (bare l) (bare r) refl refl
   where
     -- the other two reasons are never those of an open side
     opposed : (why : Reason) {t : Term} → Open why t → Opposed why l r → Means l r (Nothing why)
+    opposed reason.BothBare {t = t} o p = elim o [ ]
+    opposed reason.NeitherBare {t = t} o p = elim o [ ]
     opposed reason.Wildcard o p = p
     opposed reason.Arithmetic o p = p
 

@@ -1,14 +1,15 @@
 // The plain types that the code and the definitions share. The definitions themselves are in specs/.
 
+#![tactic(auto)]
 // A node's number and a name's: neither can stand for the other.
-#[derive(Drop)]
+#[derive(Clone, Copy)]
 pub struct NodeNo(pub u16);
 
-#[derive(Drop)]
+#[derive(Clone, Copy)]
 pub struct NameNo(pub u8);
 
 // A slot: a name of the table, or a sigil by its number.
-#[derive(Drop)]
+#[derive(Clone, Copy)]
 pub enum Slot {
     Name(NameNo),
     Param(u8),
@@ -16,7 +17,7 @@ pub enum Slot {
 }
 
 // A node, with every field that its record has.
-#[derive(Drop)]
+#[derive(Clone, Copy)]
 pub enum Node {
     And(NodeNo, NodeNo),
     Or(NodeNo, NodeNo),
@@ -50,21 +51,21 @@ pub enum Node {
 }
 
 // What the reader says of the bytes: how many names and nodes they hold, or the refusal.
-#[derive(Drop)]
+#[derive(Clone, Copy)]
 pub enum Verdict {
     Counts { names: usize, nodes: usize },
     Refused { number: u8, offset: usize },
 }
 
 // Whom an entry is about: a name, or none.
-#[derive(Drop)]
+#[derive(Clone, Copy)]
 pub enum Subject {
     Name(NameNo),
     NoName,
 }
 
 // Why an equality ties nothing: both its sides are bare variables, or neither is; or one is, and the other is a wildcard, or arithmetic that contains one.
-#[derive(Drop)]
+#[derive(Clone, Copy)]
 pub enum Reason {
     BothBare,
     NeitherBare,
@@ -73,7 +74,7 @@ pub enum Reason {
 }
 
 // What an equality ties: the variable on its left or on its right, or nothing, for a reason.
-#[derive(Drop)]
+#[derive(Clone, Copy)]
 pub enum Equality {
     Left(NameNo),
     Right(NameNo),
@@ -81,7 +82,7 @@ pub enum Equality {
 }
 
 // One unmet rule: its number, the node that it stands at, and the name that it is about.
-#[derive(Drop)]
+#[derive(Clone, Copy)]
 pub struct Finding {
     pub rule: u8,
     pub node: NodeNo,
@@ -89,7 +90,7 @@ pub struct Finding {
 }
 
 // The answer of scoping, closedness and demands.
-#[derive(Drop)]
+#[derive(Clone, Copy)]
 pub enum Answer {
     Accepted,
     Unmet(Finding),
@@ -97,7 +98,7 @@ pub enum Answer {
 }
 
 // The answer of the arithmetic test.
-#[derive(Drop)]
+#[derive(Clone, Copy)]
 pub enum Arithmetic {
     Yes,
     No,
@@ -105,7 +106,7 @@ pub enum Arithmetic {
 }
 
 // The answer of the list: how many entries were written, or how many there is no room for.
-#[derive(Drop)]
+#[derive(Clone, Copy)]
 pub enum Listing {
     Listed(usize),
     NoRoom(usize),

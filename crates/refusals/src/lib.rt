@@ -1,5 +1,7 @@
 // A refusal of the reader as each question's answer: it is passed up unchanged. No question passes on counts; since code that cannot be reached fails shut,
 // they would be refused.
+#![tactic(auto)]
+
 ghost use Rattle.std.specs.Prelude.{◌≡◌};
 ghost use Rattle.refusals.specs.Passed.{answer_passed, arithmetic_passed, listing_passed};
 

@@ -1,4 +1,5 @@
 // Scoping: 20 to 27.
+#![tactic(auto)]
 ghost use Rattle.std.specs.Prelude.{◌≡◌, true};
 ghost use Rattle.paper.specs.Places.{condition, operand};
 ghost use Rattle.names.specs.Words.{mem};

@@ -1,4 +1,5 @@
 // What slots are: sigils, or names; and the names of lists of binders.
+#![tactic(auto)]
 ghost use Rattle.std.specs.Prelude.{◌≡◌, get_or};
 ghost use Rattle.paper.specs.declared.Node.TheVariants.{ListEnd};
 ghost use Rattle.paper.specs.Sets.{◌∪◌, ◌∖◌};
@@ -17,7 +18,7 @@ use paper::{NodeNo, Slot};
 use record::access::word_at;
 
 // A list of binders from a node on: a cell's slot and the rest of the list, or no cell.
-#[derive(Drop)]
+#[derive(Clone, Copy)]
 pub enum Binder {
     Cell(Slot, NodeNo),
     End,

@@ -1,1 +1,3 @@
 // No code: definitions in specs/, laws in proofs/.
+
+#![tactic(auto)]

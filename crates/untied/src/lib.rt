@@ -1,4 +1,5 @@
 // What a person is told of an equality that ties nothing: behind it on the tree, and below an entry that it has to do with.
+#![tactic(auto)]
 mod uses;
 
 use labels::children::children_of;
@@ -9,7 +10,7 @@ use uses::{binds, uses};
 use wording::reasons::untied;
 use wording::say::{number, text};
 
-#[derive(Drop)]
+#[derive(Clone, Copy)]
 enum Untied {
     No,
     Because(Reason),

@@ -1,5 +1,6 @@
 // A node as walks see it: where they go on below it, and what it is itself. Each view is had off the node's word by its kind: a `Node` would have to be made, held
 // and copied by each who asks.
+#![tactic(auto)]
 ghost use Rattle.std.specs.Prelude.{◌≡◌, get_or};
 ghost use Rattle.paper.specs.declared.Node.TheVariants.{ListEnd};
 ghost use Rattle.memory.specs.Columns.{told_by};
@@ -13,7 +14,7 @@ use paper::{NodeNo, Slot};
 use record::access::numbers_at;
 
 // Where a walk goes on below a condition.
-#[derive(Drop)]
+#[derive(Clone, Copy)]
 pub enum Below {
     Nothing,
     Condition(NodeNo),
@@ -22,7 +23,7 @@ pub enum Below {
 }
 
 // What an operand of a comparison is: the items of an array, the sides of arithmetic, an aggregate's binders and its body.
-#[derive(Drop)]
+#[derive(Clone, Copy)]
 pub enum Operand {
     Plain,
     Array(NodeNo),
@@ -31,7 +32,7 @@ pub enum Operand {
 }
 
 // What scoping looks at in a condition itself: the slot of an exists and its body, the arguments of a predicate, the slot of a tp.
-#[derive(Drop)]
+#[derive(Clone, Copy)]
 pub enum Itself {
     Other,
     Exists(Slot, NodeNo),
@@ -40,7 +41,7 @@ pub enum Itself {
 }
 
 // What demands look at in a condition itself: of And its left, since that is what ties names at the right.
-#[derive(Drop)]
+#[derive(Clone, Copy)]
 pub enum Owing {
     Other,
     And(NodeNo),

@@ -1,4 +1,5 @@
 // What a person is told of an entry and of a refusal.
+#![tactic(auto)]
 pub mod lines;
 pub mod reasons;
 pub mod refusals;

@@ -4,7 +4,7 @@ ghost use Rattle.std.specs.Prelude.{◌≤◌, ◌<◌, length};
 use crate::say::text;
 
 // The two digits that a line begins with.
-#[derive(Drop)]
+#[derive(Clone, Copy)]
 pub struct Key(pub u8, pub u8);
 
 fn digit(n: u8) -> u8

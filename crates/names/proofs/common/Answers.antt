@@ -1,0 +1,6 @@
+
+use Rattle.names.proofs.Bits.{mem_common}
+use Rattle.names.proofs.common.Goals as goal
+
+pub returns : goal.returns
+returns c = mem_common _ _

@@ -1,0 +1,6 @@
+
+use Rattle.names.proofs.Bits.{mem_minus}
+use Rattle.names.proofs.minus.Goals as goal
+
+pub returns : goal.returns
+returns c = mem_minus _ _

@@ -1,0 +1,6 @@
+
+use Rattle.names.proofs.Bits.{mem_union}
+use Rattle.names.proofs.union.Goals as goal
+
+pub returns : goal.returns
+returns c = mem_union _ _
