@@ -6,8 +6,8 @@ use Rattle.refusals.proofs.passed_arithmetic.Goals as goal
 
 pub returns-in-Refused : goal.returns-in-Refused
 unfolding arithmetic_passed
-returns-in-Refused c = sym (ap arithmetic_passed c.v-1.given.1)
+returns-in-Refused c = sym (ap arithmetic_passed c.in-Refused.is)
 
 pub returns-in_default : goal.returns-in_default
 unfolding arithmetic_passed
-returns-in_default c = sym (ap arithmetic_passed c.enum_told-1.given.1)
+returns-in_default c = sym (ap arithmetic_passed c.in_default.is)
