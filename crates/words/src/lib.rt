@@ -1,5 +1,6 @@
 // Names as 24 bytes, zero padded: their form, their order, the reserved words, and a name without its padding.
 #![tactic(auto)]
+
 ghost use Rattle.std.specs.Prelude.{◌≡◌, ◌||◌, ◌+◌, ◌*◌, ◌<◌, ◌≤◌, length, take};
 
 use octets::joined_four;
