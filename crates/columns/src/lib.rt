@@ -1,5 +1,6 @@
 // The nodes of accepted bytes as columns, from where their records begin.
 #![tactic(auto)]
+
 ghost use Rattle.std.specs.Prelude.{◌≡◌, ◌≤◌, length};
 ghost use Rattle.memory.specs.Columns.{in_columns, Copies};
 

@@ -1,5 +1,6 @@
 // The table of kinds: for each kind byte what its record is made of, and in which places it fits.
 #![tactic(auto)]
+
 ghost use Rattle.std.specs.Prelude.{◌≡◌};
 ghost use Rattle.paper.specs.Record.{fits as fits_sort};
 ghost use Rattle.memory.specs.Rows.{unpacked, row_at, fitting as fitting_sort};

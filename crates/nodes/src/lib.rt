@@ -1,5 +1,6 @@
 // A node from its word.
 #![tactic(auto)]
+
 ghost use Rattle.std.specs.Prelude.{◌≡◌, ◌/◌, ◌%◌, ◌<◌};
 ghost use Rattle.paper.specs.Record.{slot_of};
 ghost use Rattle.memory.specs.Columns.{told_by, numbers_in};

@@ -10,8 +10,7 @@ use Rattle.memory.specs.declared.Row.{Row}
 use Rattle.memory.specs.declared.Head.TheVariants.{Node}
 use Rattle.memory.specs.Heads.{head_by, order_by, full_by, Headed}
 use Rattle.memory.proofs.Unnamed.{and_left, and_right}
-use Rattle.heads.proofs.heads.head_of.Statement.{statement}
-use Rattle.heads.proofs.heads.head_of.Tie as tie
+use Rattle.heads.proofs.heads.head_of.Goals as goal
 
 node : (row : Row) (left : ℕ) (begun : Bool) (names nodes : ℕ) → row.class ≡ 3 → begun ≡ true → nodes < 512 → row.len ≤ left → Headed row left begun names nodes Node
 unfolding head_by order_by full_by
@@ -29,13 +28,13 @@ stands class len left nodes begun e =
       leb-true len left (and_right (ltb nodes 512) (leb len left) q),
     )
 
-returns : tie.Need-returns
-returns c =
-    let s = c.before.before.args in
-    let t = stands s.row.class c.before.wide.result s.left s.nodes s.begun c.if1.true in
+pub returns-then-class-begun : goal.returns-then-class-begun
+returns-then-class-begun c =
+    let s = c.args in
+    let t = stands s.row.class c.wide-len.result s.left s.nodes s.begun c.if-class-begun.true in
     let fits = t.3 in
-    let long = c.before.wide.ensures in
+    let long = c.wide-len.ensures in
     node s.row s.left s.begun s.names s.nodes t.0 t.1 t.2 (omega (arith, fits, long))
 
-pub head-of-spec : {M : Type 1} → statement M
-head-of-spec = tie.close (tie.spec (λ c κs. tt) returns (λ c κs. tt) (λ c. c.any_Head.ensures))
+pub returns : goal.returns
+returns c = c.any_Head.ensures

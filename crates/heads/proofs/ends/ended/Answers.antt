@@ -1,0 +1,13 @@
+-- `ends::ended` meets its contract: its test is the definition's, and `rooted` says the rest. Assumes nothing.
+use Rattle.paper.specs.Record.{two_bytes}
+use Rattle.memory.specs.Ends.{ended_in}
+use borrow.Author.Rules.{rules}
+use Rattle.heads.proofs.ends.ended.Goals as goal
+
+pub returns-then-long-nodes : goal.returns-then-long-nodes
+unfolding ended_in two_bytes
+returns-then-long-nodes c = rw (← c.number.ensures, ← c.long.ensures.0, c.if-long-nodes.true) c.rooted.ensures
+
+pub returns : goal.returns
+unfolding ended_in two_bytes
+returns c = rw (← c.number.ensures, ← c.long.ensures.0, c.if-long-nodes.false) c.turned_away.ensures
