@@ -10,8 +10,8 @@ returns-then-nodes-eq0 c = rw (eq-eqb _ _ c.if-nodes-eq0.true) c.turned_away.ens
 
 pub returns-then-fits-all_marked : goal.returns-then-fits-all_marked
 unfolding rooted_in
-returns-then-fits-all_marked c = rw (ne_eqb _ _ c.if-nodes-eq0.false, ← c.fits2.ensures, ← c.all_marked.ensures, c.if-fits-all_marked.true)
+returns-then-fits-all_marked c = rw (ne_eqb _ _ c.if-nodes-eq0.false, ← c.fits.ensures, ← c.all_marked.ensures, c.if-fits-all_marked.true)
 
 pub returns : goal.returns
 unfolding rooted_in
-returns c = rw (ne_eqb _ _ c.if-nodes-eq0.false, ← c.fits2.ensures, ← c.all_marked.ensures, c.if-fits-all_marked.false) c.turned_away-2.ensures
+returns c = rw (ne_eqb _ _ c.if-nodes-eq0.false, ← c.fits.ensures, ← c.all_marked.ensures, c.if-fits-all_marked.false) c.turned_away-2.ensures

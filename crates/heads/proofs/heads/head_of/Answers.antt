@@ -37,4 +37,4 @@ returns-then-class-begun c =
     node s.row s.left s.begun s.names s.nodes t.0 t.1 t.2 (omega (arith, fits, long))
 
 pub returns : goal.returns
-returns c = c.any_Head.ensures
+returns c = c.any_head.ensures
