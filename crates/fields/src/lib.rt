@@ -1,5 +1,6 @@
 // A new node: the fields of its record, and its depth. A field reader is handed the part of the record after its kind byte.
 #![tactic(auto)]
+
 ghost use Rattle.std.specs.Prelude.{◌≡◌, ◌<◌, get_or};
 ghost use Rattle.memory.specs.Fields.{told, sort_of, refer_in, refer_if, out_of_range, checked_in, Added};
 

@@ -1,5 +1,6 @@
 // The walk over the records.
 #![tactic(auto)]
+
 ghost use Rattle.std.specs.Prelude.{◌≡◌, length};
 ghost use Rattle.paper.specs.declared.Verdict.TheVariants.{Refused};
 ghost use Rattle.memory.specs.Starts.{Scan};

@@ -1,5 +1,6 @@
 // The table of names, as it grows.
 #![tactic(auto)]
+
 ghost use Rattle.std.specs.Prelude.{◌≡◌, ◌≤◌, ◌<◌, set};
 ghost use Rattle.paper.specs.Sets.{◌∪◌};
 ghost use Rattle.names.specs.Words.{mem};

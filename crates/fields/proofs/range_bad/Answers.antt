@@ -1,0 +1,8 @@
+
+use Rattle.memory.specs.Fields.{out_of_range}
+use borrow.Author.Rules.{rules}
+use Rattle.fields.proofs.range_bad.Goals as goal
+
+pub returns : goal.returns
+unfolding out_of_range
+returns c = rw (c.wide-2.ensures, c.wide.ensures)
