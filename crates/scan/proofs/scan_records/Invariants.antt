@@ -17,7 +17,6 @@ use Rattle.memory.specs.declared.Row.{Row}
 use Rattle.memory.proofs.KindLaws.{row_length, class_name}
 use Rattle.memory.proofs.ReadLaws.{Looped, counts, out, bad_turn, format_bad, format_turn, name_bad, name_turn, node_bad, node_turn_by, end_verdict, end_holds, refused_scan, loop_start}
 use Rattle.scan.proofs.scan_records.Given as goal
-use Rattle.scan.proofs.scan_records.Goals.{After-add_node-fault, After-copied-n, After-head_of, In-Format, In-Name, In-Node}
 
 abbrev pub invariant-loop-at : goal.invariant-loop-at
 invariant-loop-at l = Looped l.bytes l.at l.begun l.nn l.nk l.starts l.reserved l.table l.kinds l.depths l.used
