@@ -1,0 +1,10 @@
+-- `node_at` asks of a node's numbers what is asked of the node. Assumes nothing.
+use Rattle.memory.proofs.ColumnLaws.{asked_of}
+use Rattle.paper.specs.declared.Node.{Node}
+use Rattle.record.proofs.access.node_at.Goals as goal
+
+pub numbers_at-requires : goal.numbers_at-requires
+numbers_at-requires c = c.requires
+
+pub returns : goal.returns
+returns c = asked_of (λ (m : Node). m) _ _ _ c.requires.1 c.numbers_at.ensures c.node_of.ensures
