@@ -1,6 +1,7 @@
 // A node as walks see it: where they go on below it, and what it is itself. Each view is had off the node's word by its kind: a `Node` would have to be made, held
 // and copied by each who asks.
 #![tactic(auto)]
+
 ghost use Rattle.std.specs.Prelude.{◌≡◌, get_or};
 ghost use Rattle.paper.specs.declared.Node.TheVariants.{ListEnd};
 ghost use Rattle.memory.specs.Columns.{told_by};

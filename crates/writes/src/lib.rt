@@ -1,5 +1,6 @@
 // Entries into a lent buffer, as far as it has room.
 #![tactic(auto)]
+
 ghost use Rattle.std.specs.Prelude.{◌≡◌, [], ◌∷◌, ◌<◌};
 ghost use Rattle.paper.specs.TheList.{subject_of, name_or_255, pack as packs, unpack as unpacks};
 ghost use Rattle.paper.specs.Places.{for_names, findings};
