@@ -1,5 +1,6 @@
 // Words of marks, where they are not one operation on those of the parts.
 #![tactic(auto)]
+
 ghost use Rattle.std.specs.Prelude.{◌≡◌, true, false, not, ◌||◌, ◌&&◌};
 ghost use Rattle.paper.specs.Record.{pick};
 ghost use Rattle.names.specs.Words.{bit};

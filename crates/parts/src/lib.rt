@@ -1,5 +1,6 @@
 // The nodes that a node's facts follow from, off its word by its kind.
 #![tactic(auto)]
+
 ghost use Rattle.std.specs.Prelude.{◌≡◌, get_or};
 ghost use Rattle.paper.specs.declared.Node.TheVariants.{ListEnd};
 ghost use Rattle.memory.specs.Columns.{told_by};

@@ -1,5 +1,6 @@
 // What slots are: sigils, or names; and the names of lists of binders.
 #![tactic(auto)]
+
 ghost use Rattle.std.specs.Prelude.{◌≡◌, get_or};
 ghost use Rattle.paper.specs.declared.Node.TheVariants.{ListEnd};
 ghost use Rattle.paper.specs.Sets.{◌∪◌, ◌∖◌};

@@ -1,5 +1,6 @@
 // What an equality ties, or why nothing.
 #![tactic(auto)]
+
 ghost use Rattle.std.specs.Prelude.{◌≡◌};
 ghost use Rattle.paper.specs.FreeAndRestricted.{bare, unless, equality};
 ghost use Rattle.record.specs.Stored.{Has};

@@ -1,0 +1,14 @@
+-- `collect_free` reads a fact from a row.
+use mathlib.Core.Path.{ap}
+use native.Mathlib.Omega.{arith}
+use Rattle.known.specs.Known.{Known, condition_known}
+use Rattle.known.specs.Rows.{meant}
+use Rattle.known.proofs.RowLaws.{noted_body}
+use Rattle.rows.proofs.read.collect_free.Goals as goal
+
+pub returns : goal.returns
+unfolding meant condition_known
+returns c = ap (λ (k : Known). k.free) (noted_body c.requires.1 c.requires.0 c.requires.2 c.facts_at-f.ensures)
+
+pub facts_at-f-requires : goal.facts_at-f-requires
+facts_at-f-requires c = let l = c.requires.0 in let f = c.requires.1.fits in omega arith

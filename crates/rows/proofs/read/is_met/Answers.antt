@@ -1,0 +1,20 @@
+-- `is_met` asks the test of a node's row. Assumes nothing.
+use mathlib.Core.Path.{ap, ◌∙◌}
+use mathlib.Core.Bool.{Bool, not, ◌&&◌}
+use native.Mathlib.Omega.{arith}
+use Rattle.paper.specs.Sets.{Set}
+use Rattle.names.specs.Words.{bit, mem}
+use Rattle.known.specs.Needs.{has_none, met}
+use Rattle.known.specs.Known.{Known}
+use Rattle.known.specs.Rows.{meant}
+use Rattle.known.proofs.RowLaws.{noted}
+use Rattle.rows.proofs.read.is_met.Goals as goal
+
+pub returns : goal.returns
+unfolding met has_none meant bit
+returns c =
+    ap (λ (b : Bool). not (bit c.facts_at-f.result.marks 1) && b) (c.is_empty.ensures ∙ ap has_none c.minus-unmet.ensures)
+    ∙ ap (λ (k : Known). met k.need k.hard (mem c.args.tied)) (noted c.requires.1 c.requires.0 c.requires.2 c.facts_at-f.ensures)
+
+pub facts_at-f-requires : goal.facts_at-f-requires
+facts_at-f-requires c = let l = c.requires.0 in let f = c.requires.1.fits in omega arith

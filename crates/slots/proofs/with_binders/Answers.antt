@@ -1,0 +1,8 @@
+-- `with_binders` joins them to the names of the binders.
+use mathlib.Core.Path.{refl, ap₂, ◌∙◌}
+use borrow.Author.Rules.{rules}
+use Rattle.paper.specs.Sets.{◌∪◌}
+use Rattle.slots.proofs.with_binders.Goals as goal
+
+pub returns : goal.returns
+returns c = c.union.ensures ∙ ap₂ ◌∪◌ refl c.binder_names-own.ensures

@@ -1,0 +1,8 @@
+-- `with_slot` joins them to the name of the slot.
+use mathlib.Core.Path.{refl, ap₂, ◌∙◌}
+use borrow.Author.Rules.{rules}
+use Rattle.paper.specs.Sets.{◌∪◌}
+use Rattle.slots.proofs.with_slot.Goals as goal
+
+pub returns : goal.returns
+returns c = c.union.ensures ∙ ap₂ ◌∪◌ refl c.slot_name-name.ensures
