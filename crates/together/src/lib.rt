@@ -1,5 +1,6 @@
 // How the facts of parts are put together.
 #![tactic(auto)]
+
 ghost use Rattle.std.specs.Prelude.{◌≡◌, true, false};
 ghost use Rattle.names.specs.Words.{mem};
 ghost use Rattle.paper.specs.FreeAndRestricted.{tied_name};

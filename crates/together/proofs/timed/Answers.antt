@@ -5,16 +5,15 @@ use Rattle.names.specs.Words.{bit}
 use Rattle.known.proofs.MarkLaws.{maybe_kept, maybe_added}
 use Rattle.known.specs.Known.{naming}
 use Rattle.known.specs.Rows.{meant}
-use Rattle.together.proofs.timed.Statement.{statement}
-use Rattle.together.proofs.timed.Tie as tie
+use Rattle.together.proofs.timed.Goals as goal
 
-returns : tie.Need-returns
+pub returns : goal.returns
 unfolding meant naming bit
 returns c =
-    let b = c.before.before.args.sigil in
+    let b = c.args.sigil in
     rw (
-      c.before.empty.ensures,
-      c.mark.ensures,
+      c.empty-none.ensures,
+      c.mark-marks.ensures,
       maybe_added 8 1 0 b refl,
       maybe_kept 8 1 1 b refl,
       maybe_kept 8 1 2 b refl,
@@ -22,6 +21,3 @@ returns c =
       maybe_kept 8 1 4 b refl,
       maybe_kept 8 1 5 b refl,
     )
-
-pub timed-spec : {M : Type 1} → statement M
-timed-spec = tie.close (tie.spec (λ c κs. tt) (λ c κs. tt) returns)

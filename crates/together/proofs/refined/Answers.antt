@@ -8,20 +8,18 @@ use Rattle.names.proofs.Bits.{bit_of_or}
 use Rattle.known.proofs.MarkLaws.{kept, masked, cleared}
 use Rattle.known.specs.Known.{refined}
 use Rattle.known.specs.Rows.{meant}
-use Rattle.together.proofs.refined.Statement.{statement}
-use Rattle.together.proofs.refined.Tie as tie
+use Rattle.together.proofs.refined.Goals as goal
 
-returns : tie.Need-returns
+pub returns : goal.returns
 unfolding meant refined bit
 returns c =
-    let second = c.before.before.before in
-    let s = second.before.before.args in
+    let s = c.args in
     let m = s.base.marks in
     let n = s.fields.marks in
     let o = bit_and n 1 in
     rw (
-      second.union2.ensures,
-      second.before.union.ensures,
+      c.union-restricted.ensures,
+      c.union-free.ensures,
       bit_of_or m o 0 ∙ ap (◌||◌ (bit m 0)) (masked n 1 0 refl),
       kept m o 1 (cleared n 1 1 refl),
       kept m o 2 (cleared n 1 2 refl),
@@ -29,6 +27,3 @@ returns c =
       kept m o 4 (cleared n 1 4 refl),
       kept m o 5 (cleared n 1 5 refl),
     )
-
-pub refined-spec : {M : Type 1} → statement M
-refined-spec = tie.close (tie.spec (λ c κs. tt) (λ c κs. tt) returns)

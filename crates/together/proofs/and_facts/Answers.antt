@@ -1,0 +1,10 @@
+-- `and_facts` eases the right by what the left restricts. Assumes nothing.
+use mathlib.Core.Path.{◌∙◌}
+use borrow.Author.Rules.{rules}
+use Rattle.known.specs.Known.{and_known}
+use Rattle.known.specs.Rows.{meant}
+use Rattle.together.proofs.and_facts.Goals as goal
+
+pub returns : goal.returns
+unfolding meant and_known
+returns c = c.both.ensures ∙ rw (c.union-needs.ensures, c.minus-eased.ensures, c.union-given.ensures)

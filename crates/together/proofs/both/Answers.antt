@@ -1,0 +1,14 @@
+-- `both` joins the free names and the marks. Assumes nothing.
+use borrow.Author.Rules.{rules}
+use Rattle.names.proofs.Bits.{bit_of_or}
+use Rattle.known.specs.Known.{both}
+use Rattle.known.specs.Rows.{meant}
+use Rattle.together.proofs.both.Goals as goal
+
+pub returns : goal.returns
+unfolding meant both
+returns c =
+    let s = c.args in
+    let m = s.one.marks in
+    let n = s.other.marks in
+    rw (c.union-free.ensures, bit_of_or m n 0, bit_of_or m n 1, bit_of_or m n 2, bit_of_or m n 3, bit_of_or m n 4, bit_of_or m n 5)

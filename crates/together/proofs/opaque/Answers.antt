@@ -1,0 +1,10 @@
+-- `opaque` holds a sigil and nothing else. Assumes nothing.
+use borrow.Author.Rules.{rules}
+use Rattle.names.specs.Words.{bit}
+use Rattle.known.specs.Known.{opaque}
+use Rattle.known.specs.Rows.{meant}
+use Rattle.together.proofs.opaque.Goals as goal
+
+pub returns : goal.returns
+unfolding meant opaque bit
+returns c = rw c.empty-none.ensures
