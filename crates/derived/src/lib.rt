@@ -1,5 +1,6 @@
 // A node's facts from those of its parts, by its kind: a function for each number of parts.
 #![tactic(auto)]
+
 ghost use Rattle.std.specs.Prelude.{◌≡◌, ◌||◌, [], ◌∷◌};
 ghost use Rattle.record.specs.Stored.{Has};
 ghost use Rattle.paper.specs.Sets.{outside};
