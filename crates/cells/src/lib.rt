@@ -1,5 +1,6 @@
 // Entries at the binder cells of an aggregate.
 #![tactic(auto)]
+
 ghost use Rattle.paper.specs.Places.{at_cells, findings};
 ghost use Rattle.paper.specs.Scoping.{cell_of, cells};
 ghost use Rattle.names.specs.Words.{mem};

@@ -1,5 +1,6 @@
 // The row of every node that has one, found by one recursion from the root.
 #![tactic(auto)]
+
 ghost use Rattle.std.specs.Prelude.{◌≡◌, true, [], ◌∷◌, ◌<◌, length};
 ghost use Rattle.paper.proofs.Walks.{All};
 ghost use Rattle.record.specs.Stored.{Has};

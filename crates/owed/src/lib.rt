@@ -1,5 +1,6 @@
 // What a condition itself owes: its entries of 30 to 32, and what is tied and asked at the places below it.
 #![tactic(auto)]
+
 ghost use Rattle.std.specs.Prelude.{◌≡◌, []};
 ghost use Rattle.paper.specs.Record.{pick};
 ghost use Rattle.paper.specs.Sets.{◌∖◌};

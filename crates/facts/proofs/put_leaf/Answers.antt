@@ -1,0 +1,17 @@
+-- `put_leaf` puts a node's facts, which are those of its tree. Assumes nothing.
+use mathlib.Core.Path.{refl}
+use Rattle.known.proofs.RowLaws.{put_long}
+use Rattle.known.proofs.NodeLaws.{own_put}
+use Rattle.facts.proofs.put_leaf.Goals as goal
+
+pub leaf_facts-f-requires : goal.leaf_facts-f-requires
+leaf_facts-f-requires c = (c.requires.0, c.requires.2)
+
+pub put_facts-requires : goal.put_facts-requires
+put_facts-requires c = c.requires.1
+
+pub shape_of-rows : goal.shape_of-rows
+shape_of-rows c = put_long c.put_facts.ensures
+
+pub returns : goal.returns
+returns c = own_put c.requires.0 refl c.leaf_facts-f.ensures c.requires.1 c.put_facts.ensures
