@@ -2,5 +2,5 @@
 #![tactic(auto)]
 
 pub mod children;
-mod kinds;
+mod kind;
 pub mod text;

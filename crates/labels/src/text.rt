@@ -1,5 +1,5 @@
 // A node on a line: its kind by document 01's word, with the names and the numbers that stand in it.
-use crate::kinds::{Detail, detail_of, kind};
+use crate::kind::{Detail, detail_of, kind};
 use lookup::node;
 use paper::{Node, NodeNo, Slot, Subject};
 use record::access::name;
