@@ -1,5 +1,5 @@
 // The bytes of a file or of standard input, and what is said of a file on standard error.
-ghost use Rattle.std.specs.Prelude.{◌≤◌, IfOk};
+ghost use Rattle.std.specs.Prelude.{◌≡◌, ◌≤◌, ◌↔◌, IsTrue, IfOk, OnErr};
 
 use crate::asked::argument;
 use std::fs::File;
@@ -57,7 +57,10 @@ fn complain_of(rt: &HostRuntime, i: usize, error: ErrorKind) -> io::Result<()> {
 }
 
 // At the end a read brings nothing; one that failed is not the end.
-fn is_at_end(read: &io::Result<usize>) -> bool {
+fn is_at_end(read: &io::Result<usize>) -> bool
+    ensures ok { IfOk read.now (λ n. IsTrue result ↔ n ≡ 0) }
+    ensures err { OnErr read.now (¬ (IsTrue result)) }
+{
     match read {
         Ok(n) => *n == 0,
         Err(_) => false,
