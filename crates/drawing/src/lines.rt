@@ -2,71 +2,82 @@
 use crate::shape::Role;
 use labels::text::{about, alone};
 use paper::{Node, NodeNo};
+use std::io;
+use std::io::Write;
 use untied::behind;
 use wording::rules::wrong;
 use wording::say::{number, text};
 use writes::unpack;
 
-fn indent(depth: usize) {
+fn indent<W: Write>(out: &mut W, depth: usize) -> io::Result<()> {
     for _ in 0..depth {
-        text(b"  ");
+        text(out, b"  ")?;
     }
+    Ok(())
 }
 
 // A number of up to three digits, to the right of four columns.
-fn in_column(n: u16) {
+fn in_column<W: Write>(out: &mut W, n: u16) -> io::Result<()> {
     if n < 10 {
-        text(b" ");
+        text(out, b" ")?;
     }
     if n < 100 {
-        text(b" ");
+        text(out, b" ")?;
     }
-    text(b" ");
-    number(n as usize);
+    text(out, b" ")?;
+    number(out, n as usize)
 }
 
-fn say_role(role: Role) {
+fn say_role<W: Write>(out: &mut W, role: Role) -> io::Result<()> {
     match role {
-        Role::Plain => {}
+        Role::Plain => Ok(()),
         Role::Argument(field) => {
-            text(b"argument ");
-            number(field as usize);
-            text(b": ");
+            text(out, b"argument ")?;
+            number(out, field as usize)?;
+            text(out, b": ")
         }
-        Role::Where => text(b"where "),
+        Role::Where => text(out, b"where "),
     }
 }
 
-pub fn node_line(bytes: &[u8], i: NodeNo, n: Node, depth: usize, role: Role) {
-    in_column(i.0);
-    text(b"  ");
-    indent(depth);
-    say_role(role);
-    alone(bytes, n);
+pub fn node_line<W: Write>(
+    out: &mut W,
+    bytes: &[u8],
+    i: NodeNo,
+    n: Node,
+    depth: usize,
+    role: Role,
+) -> io::Result<()> {
+    in_column(out, i.0)?;
+    text(out, b"  ")?;
+    indent(out, depth)?;
+    say_role(out, role)?;
+    alone(out, bytes, n)
 }
 
 // An entry, if it stands at the node.
-fn mark(bytes: &[u8], entry: u32, i: NodeNo) {
+fn mark<W: Write>(out: &mut W, bytes: &[u8], entry: u32, i: NodeNo) -> io::Result<()> {
     let f = unpack(entry);
     if f.node.0 != i.0 {
-        return;
+        return Ok(());
     }
-    text(b"  ! ");
-    number(f.rule as usize);
-    text(b": ");
+    text(out, b"  ! ")?;
+    number(out, f.rule as usize)?;
+    text(out, b": ")?;
     let whom = f.name;
-    wrong(f.rule, about(bytes, whom));
+    wrong(out, f.rule, about(bytes, whom))
 }
 
-fn each_mark(bytes: &[u8], entries: &[u32], i: NodeNo) {
+fn each_mark<W: Write>(out: &mut W, bytes: &[u8], entries: &[u32], i: NodeNo) -> io::Result<()> {
     for k in 0..entries.len() {
-        mark(bytes, entries[k], i);
+        mark(out, bytes, entries[k], i)?;
     }
+    Ok(())
 }
 
 // The entries of the node, at the end of its line, and why it ties nothing if it is an equality that does.
-pub fn marks(bytes: &[u8], entries: &[u32], i: NodeNo) {
-    each_mark(bytes, entries, i);
-    behind(bytes, i);
-    text(b"\n");
+pub fn marks<W: Write>(out: &mut W, bytes: &[u8], entries: &[u32], i: NodeNo) -> io::Result<()> {
+    each_mark(out, bytes, entries, i)?;
+    behind(out, bytes, i)?;
+    text(out, b"\n")
 }

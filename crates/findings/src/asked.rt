@@ -1,5 +1,7 @@
 // What the program's arguments ask for.
-use check::same;
+ghost use Rattle.std.specs.Prelude.{◌≤◌};
+
+use std::env::{Env, FillError};
 
 #[derive(Clone, Copy)]
 pub enum Mode {
@@ -34,27 +36,38 @@ enum Word {
 }
 
 fn word_of(argument: &[u8]) -> Word {
-    if same(argument, b"--numbers") {
-        return Word::Mode(Mode::Numbers);
+    match argument {
+        b"--numbers" => Word::Mode(Mode::Numbers),
+        b"--tree" => Word::Mode(Mode::Tree),
+        b"--help" => Word::Mode(Mode::Help),
+        [b'-', ..] => Word::Unknown,
+        _ => Word::File,
     }
-    if same(argument, b"--tree") {
-        return Word::Mode(Mode::Tree);
-    }
-    if same(argument, b"--help") {
-        return Word::Mode(Mode::Help);
-    }
-    if 0 < argument.len() {
-        if argument[0] == b'-' {
-            return Word::Unknown;
-        }
-    }
-    Word::File
 }
 
-fn word_at(i: usize) -> Word {
-    let mut argument = io::buffer();
-    let n = os::arg(i, &mut argument);
-    word_of(&argument[..n])
+// Puts an argument into the buffer, and answers how many bytes of it stand there: all of them, or as many as the buffer holds.
+pub fn argument(rt: &impl Env, i: usize, buffer: &mut [u8; 4096]) -> usize
+    ensures { result ≤ 4096 }
+{
+    match rt.arg(i, buffer) {
+        Ok(n) => n,
+        Err(FillError::NotPresent) => 0,
+        Err(FillError::TooLong) => 4096,
+    }
+}
+
+// Whether there is such an argument: it is there too where it does not fit.
+fn is_there(rt: &impl Env, i: usize) -> bool {
+    match rt.arg(i, &mut []) {
+        Ok(_) | Err(FillError::TooLong) => true,
+        Err(FillError::NotPresent) => false,
+    }
+}
+
+fn word_at(rt: &impl Env, i: usize) -> Word {
+    let mut buffer = [0u8; 4096];
+    let n = argument(rt, i, &mut buffer);
+    word_of(&buffer[..n])
 }
 
 fn faulty(asked: Asked, fault: Fault) -> Asked {
@@ -93,12 +106,12 @@ fn with_file(asked: Asked, i: usize) -> Asked {
 }
 
 // The first fault stays.
-fn with_word(asked: Asked, i: usize) -> Asked {
+fn with_word(rt: &impl Env, asked: Asked, i: usize) -> Asked {
     let fault = asked.fault;
     let Fault::Nothing = fault else {
         return asked;
     };
-    let word = word_at(i);
+    let word = word_at(rt, i);
     match word {
         Word::Mode(mode) => with_mode(asked, i, mode),
         Word::Unknown => faulty(asked, Fault::Option(i)),
@@ -114,10 +127,13 @@ fn nothing() -> Asked {
     }
 }
 
-pub fn arguments() -> Asked {
+pub fn arguments(rt: &impl Env) -> Asked {
     let mut asked = nothing();
-    for i in 1..os::arg_count() {
-        asked = with_word(asked, i);
+    for i in 1..usize::MAX {
+        if !is_there(rt, i) {
+            break;
+        }
+        asked = with_word(rt, asked, i);
     }
     asked
 }

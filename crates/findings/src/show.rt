@@ -5,6 +5,8 @@ use labels::text::{about, described};
 use paper::{Arithmetic, NodeNo, Verdict};
 use questions::arithmetic;
 use record::reader::read;
+use std::io;
+use std::io::Write;
 use untied::below;
 use wording::say::{counted, number, text};
 use wording::{refusals, rules};
@@ -17,141 +19,164 @@ fn first(entries: &[u32], n: usize) -> &[u32] {
     &entries[..n]
 }
 
-fn number_line(entry: u32) {
-    number(entry as usize);
-    text(b"\n");
+fn number_line<W: Write>(out: &mut W, entry: u32) -> io::Result<()> {
+    number(out, entry as usize)?;
+    text(out, b"\n")
 }
 
-fn numbers(entries: &[u32]) {
+fn numbers<W: Write>(out: &mut W, entries: &[u32]) -> io::Result<()> {
     for k in 0..entries.len() {
-        number_line(entries[k]);
+        number_line(out, entries[k])?;
     }
+    Ok(())
 }
 
 // An entry: a line for where, what and why, one on how to mend it, and what there is to say of equalities.
-fn block(record: &[u8], entry: u32) {
+fn block<W: Write>(out: &mut W, record: &[u8], entry: u32) -> io::Result<()> {
     let f = unpack(entry);
     let rule = f.rule;
     let node = f.node;
     let whom = f.name;
     let name = about(record, whom);
-    number(rule as usize);
-    text(b" at node ");
-    number(node.0 as usize);
-    text(b" (");
-    described(record, node);
-    text(b"): ");
-    rules::wrong(rule, name);
-    text(b": ");
-    rules::why(rule, name);
-    text(b".\n   Mend: ");
-    rules::mend(rule, name);
-    text(b"\n");
-    below(record, f);
+    number(out, rule as usize)?;
+    text(out, b" at node ")?;
+    number(out, node.0 as usize)?;
+    text(out, b" (")?;
+    described(out, record, node)?;
+    text(out, b"): ")?;
+    rules::wrong(out, rule, name)?;
+    text(out, b": ")?;
+    rules::why(out, rule, name)?;
+    text(out, b".\n   Mend: ")?;
+    rules::mend(out, rule, name)?;
+    text(out, b"\n")?;
+    below(out, record, f)
 }
 
-fn blocks(record: &[u8], entries: &[u32]) {
+fn blocks<W: Write>(out: &mut W, record: &[u8], entries: &[u32]) -> io::Result<()> {
     for k in 0..entries.len() {
-        block(record, entries[k]);
+        block(out, record, entries[k])?;
     }
+    Ok(())
 }
 
 // The root is the last node.
-fn whole_tree(record: &[u8], entries: &[u32]) {
+fn whole_tree<W: Write>(out: &mut W, record: &[u8], entries: &[u32]) -> io::Result<()> {
     let r = read(record);
     let v = r.verdict;
     let Verdict::Counts { names: _, nodes } = v else {
-        return;
+        return Ok(());
     };
     if 0 < nodes {
         if nodes <= 512 {
-            tree(record, entries, NodeNo((nodes - 1) as u16));
+            tree(out, record, entries, NodeNo((nodes - 1) as u16))?;
         }
     }
+    Ok(())
 }
 
 // Arithmetic is no finding of the list, but a terminal that is built without it refuses the rule.
-fn note(record: &[u8]) {
+fn note<W: Write>(out: &mut W, record: &[u8]) -> io::Result<()> {
     let a = arithmetic(record);
     if let Arithmetic::Yes = a {
-        text(b"note: this rule uses arithmetic (40): a terminal without arithmetic refuses it.\n");
+        text(
+            out,
+            b"note: this rule uses arithmetic (40): a terminal without arithmetic refuses it.\n",
+        )?;
     }
+    Ok(())
 }
 
-fn verdict(record: &[u8], count: usize) {
-    note(record);
+fn verdict<W: Write>(out: &mut W, record: &[u8], count: usize) -> io::Result<()> {
+    note(out, record)?;
     if count == 0 {
-        text(b"accepted\n");
-        return;
+        return text(out, b"accepted\n");
     }
-    counted(count, b"finding");
-    text(b"\n");
+    counted(out, count, b"finding")?;
+    text(out, b"\n")
 }
 
-fn shown(record: &[u8], entries: &[u32], mode: Mode) {
+fn shown<W: Write>(out: &mut W, record: &[u8], entries: &[u32], mode: Mode) -> io::Result<()> {
     match mode {
-        Mode::Numbers => numbers(entries),
+        Mode::Numbers => numbers(out, entries),
         Mode::Tree => {
-            whole_tree(record, entries);
-            verdict(record, entries.len());
+            whole_tree(out, record, entries)?;
+            verdict(out, record, entries.len())
         }
         _ => {
-            blocks(record, entries);
-            verdict(record, entries.len());
+            blocks(out, record, entries)?;
+            verdict(out, record, entries.len())
         }
     }
 }
 
 // The first entries of the buffer are the list.
-pub fn listed(record: &[u8], entries: &[u32; 262272], count: usize, mode: Mode) {
-    shown(record, first(entries, count), mode);
+pub fn listed<W: Write>(
+    out: &mut W,
+    record: &[u8],
+    entries: &[u32; 262272],
+    count: usize,
+    mode: Mode,
+) -> io::Result<()> {
+    shown(out, record, first(entries, count), mode)
 }
 
-pub fn no_room(needed: usize) {
-    text(b"the list is too long to be shown: ");
-    counted(needed, b"finding");
-    text(b"\n");
+pub fn no_room<W: Write>(out: &mut W, needed: usize) -> io::Result<()> {
+    text(out, b"the list is too long to be shown: ")?;
+    counted(out, needed, b"finding")?;
+    text(out, b"\n")
 }
 
-fn explained(refusal: u8) {
-    text(b": ");
-    refusals::fault(refusal);
-    text(b".\n   Mend: ");
-    refusals::advice(refusal);
+fn explained<W: Write>(out: &mut W, refusal: u8) -> io::Result<()> {
+    text(out, b": ")?;
+    refusals::fault(out, refusal)?;
+    text(out, b".\n   Mend: ")?;
+    refusals::advice(out, refusal)
 }
 
 // The reader's answer for no bytes is 1, as for a file that was cut.
-fn empty() {
+fn empty<W: Write>(out: &mut W) -> io::Result<()> {
     text(
+        out,
         b": the file is empty.\n   Mend: nothing was saved in it: save the rule again in the editor.",
-    );
+    )
 }
 
 // Such a file is refused for what stands in it, which does not say what is most likely wrong.
-fn too_large(length: usize) {
-    text(b"\n   The file has ");
-    number(length);
-    text(b" bytes, and a record 6258 at most: check that it is the right file.");
+fn too_large<W: Write>(out: &mut W, length: usize) -> io::Result<()> {
+    text(out, b"\n   The file has ")?;
+    number(out, length)?;
+    text(
+        out,
+        b" bytes, and a record 6258 at most: check that it is the right file.",
+    )
 }
 
-pub fn refused(record: &[u8], refusal: u8, offset: usize, mode: Mode) {
-    text(b"refused ");
-    number(refusal as usize);
-    text(b" at byte ");
-    number(offset);
+pub fn refused<W: Write>(
+    out: &mut W,
+    record: &[u8],
+    refusal: u8,
+    offset: usize,
+    mode: Mode,
+) -> io::Result<()> {
+    text(out, b"refused ")?;
+    number(out, refusal as usize)?;
+    text(out, b" at byte ")?;
+    number(out, offset)?;
     if let Mode::Numbers = mode {} else if record.len() == 0 {
-        empty();
+        empty(out)?;
     } else {
-        explained(refusal);
+        explained(out, refusal)?;
         if record.len() > 6258 {
-            too_large(record.len());
+            too_large(out, record.len())?;
         }
     }
-    text(b"\n");
+    text(out, b"\n")
 }
 
-pub fn usage() {
+pub fn usage<W: Write>(out: &mut W) -> io::Result<()> {
     text(
+        out,
         b"\
 usage: findings [--numbers | --tree] [FILE]\n\
 \n\
@@ -167,5 +192,5 @@ line is the number of findings, or `accepted`.\n\
 To tie a name is to give it a value: by an event that has it as an argument, by\n\
 tp, or by an equality. Numbers of actions, fields and literals are those of the\n\
 catalogue.\n",
-    );
+    )
 }

@@ -1,5 +1,6 @@
 // What stands at a node of a record, in words.
 #![tactic(auto)]
+
 pub mod children;
-mod kinds;
+mod kind;
 pub mod text;

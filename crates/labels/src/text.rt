@@ -1,12 +1,14 @@
 // A node on a line: its kind by document 01's word, with the names and the numbers that stand in it.
-use crate::kinds::{Detail, detail_of, kind};
+use crate::kind::{Detail, detail_of, kind};
 use lookup::node;
 use paper::{Node, NodeNo, Slot, Subject};
 use record::access::name;
+use std::io;
+use std::io::Write;
 use wording::lines::{decimal, hexadecimal, say};
 use wording::say::{number, text};
 
-fn kind_word(n: Node) {
+fn kind_word<W: Write>(out: &mut W, n: Node) -> io::Result<()> {
     let table = b"\
 10 And\n\
 11 Or\n\
@@ -37,78 +39,79 @@ fn kind_word(n: Node) {
 31 argument \n\
 32 item\n\
 33 for \n";
-    say(table, hexadecimal(kind(n)), b"");
+    say(out, table, hexadecimal(kind(n)), b"")
 }
 
 // Document 01 says that 0 is equality, and request W-207 that 1 is 'less' and 2 'at most'. Which of the others 3 to 5 are is our reading.
-fn comparing(op: u8) {
+fn comparing<W: Write>(out: &mut W, op: u8) -> io::Result<()> {
     say(
+        out,
         b"00 ==\n01 <\n02 <=\n03 >\n04 >=\n05 !=\n",
         decimal(op),
         b"",
-    );
+    )
 }
 
 // Our reading too: the order of the Rust's `ArithOp` (oracle/dogwood, ast.rs).
-fn computing(op: u8) {
-    say(b"00 +\n01 -\n02 *\n", decimal(op), b"");
+fn computing<W: Write>(out: &mut W, op: u8) -> io::Result<()> {
+    say(out, b"00 +\n01 -\n02 *\n", decimal(op), b"")
 }
 
 // A name, or a sigil as the Rust's language writes it.
-fn slot(bytes: &[u8], s: Slot) {
+fn slot<W: Write>(out: &mut W, bytes: &[u8], s: Slot) -> io::Result<()> {
     match s {
-        Slot::Name(x) => text(name(bytes, x)),
+        Slot::Name(x) => text(out, name(bytes, x)),
         Slot::Param(k) => {
-            text(b"?");
-            number(k as usize);
+            text(out, b"?")?;
+            number(out, k as usize)
         }
         Slot::Binder(k) => {
-            text(b"$");
-            number(k as usize);
+            text(out, b"$")?;
+            number(out, k as usize)
         }
     }
 }
 
-fn say_detail(bytes: &[u8], d: Detail) {
+fn say_detail<W: Write>(out: &mut W, bytes: &[u8], d: Detail) -> io::Result<()> {
     match d {
-        Detail::Nothing => {}
-        Detail::Number(n) => number(n as usize),
-        Detail::Byte(n) => number(n as usize),
-        Detail::Bound(s) => slot(bytes, s),
-        Detail::Compares(op) => comparing(op),
-        Detail::Computes(op) => computing(op),
+        Detail::Nothing => Ok(()),
+        Detail::Number(n) => number(out, n as usize),
+        Detail::Byte(n) => number(out, n as usize),
+        Detail::Bound(s) => slot(out, bytes, s),
+        Detail::Compares(op) => comparing(out, op),
+        Detail::Computes(op) => computing(out, op),
     }
 }
 
 // A node without what is below it.
-pub fn alone(bytes: &[u8], n: Node) {
-    kind_word(n);
-    say_detail(bytes, detail_of(n));
+pub fn alone<W: Write>(out: &mut W, bytes: &[u8], n: Node) -> io::Result<()> {
+    kind_word(out, n)?;
+    say_detail(out, bytes, detail_of(n))
 }
 
 // A side of a comparison in a few words: a name stands for itself.
-fn side(bytes: &[u8], i: NodeNo) {
+fn side<W: Write>(out: &mut W, bytes: &[u8], i: NodeNo) -> io::Result<()> {
     let n = node(bytes, i);
     match n {
-        Node::Var(x) => text(name(bytes, x)),
-        Node::Wildcard => text(b"*"),
-        _ => alone(bytes, n),
+        Node::Var(x) => text(out, name(bytes, x)),
+        Node::Wildcard => text(out, b"*"),
+        _ => alone(out, bytes, n),
     }
 }
 
 // A node by its number, a comparison with its sides.
-pub fn described(bytes: &[u8], i: NodeNo) {
+pub fn described<W: Write>(out: &mut W, bytes: &[u8], i: NodeNo) -> io::Result<()> {
     let n = node(bytes, i);
     match n {
         Node::Comparison(op, left, right) => {
-            text(b"Comparison ");
-            side(bytes, left);
-            text(b" ");
-            comparing(op);
-            text(b" ");
-            side(bytes, right);
+            text(out, b"Comparison ")?;
+            side(out, bytes, left)?;
+            text(out, b" ")?;
+            comparing(out, op)?;
+            text(out, b" ")?;
+            side(out, bytes, right)
         }
-        _ => alone(bytes, n),
+        _ => alone(out, bytes, n),
     }
 }
 

@@ -1,11 +1,14 @@
 // The reader and the list at their limits: a line says what a record is, how long it is and what the reader says of it.
 #![tactic(auto)]
+
 mod put;
 mod say;
 
 ghost use Rattle.std.specs.Prelude.{◌≤◌};
 
 use paper::NodeNo;
+use std::io;
+use std::io::Write;
 
 const NOT: [u8; 1] = *b"\x12";
 
@@ -13,7 +16,7 @@ const NOT: [u8; 1] = *b"\x12";
 const EXISTS: [u8; 4] = *b"\x16\0\0\0";
 
 // A Call under Nots.
-fn deep(title: &[u8], nodes: u16)
+fn deep<W: Write>(to: &mut W, title: &[u8], nodes: u16) -> io::Result<()>
     requires { 1 ≤ nodes }
 {
     let mut out = [0u8; 8192];
@@ -21,11 +24,11 @@ fn deep(title: &[u8], nodes: u16)
     let nots = put::call(&mut out, start);
     let end = put::stack(&mut out, nots, &NOT, 0, nodes - 1);
     let len = put::end(&mut out, end, nodes);
-    say::reading(title, &out, len);
+    say::reading(to, title, &out, len)
 }
 
 // A balanced tree of 256 Calls and 255 Ands, which is 9 deep, under Nots.
-fn wide(title: &[u8], nodes: u16)
+fn wide<W: Write>(to: &mut W, title: &[u8], nodes: u16) -> io::Result<()>
     requires { 1 ≤ nodes }
 {
     let mut out = [0u8; 8192];
@@ -34,11 +37,11 @@ fn wide(title: &[u8], nodes: u16)
     let nots = put::ands(&mut out, ands, 255);
     let end = put::stack(&mut out, nots, &NOT, 510, nodes - 1);
     let len = put::end(&mut out, end, nodes);
-    say::reading(title, &out, len);
+    say::reading(to, title, &out, len)
 }
 
 // Names and one Call; and what the last name's number and the number after it give.
-fn named(title: &[u8], first: u8, count: u8)
+fn named<W: Write>(to: &mut W, title: &[u8], first: u8, count: u8) -> io::Result<()>
     requires { (first ≤ 122) × (1 ≤ count) }
 {
     let mut out = [0u8; 8192];
@@ -46,16 +49,16 @@ fn named(title: &[u8], first: u8, count: u8)
     let nodes = put::names(&mut out, start, first, count);
     let end = put::call(&mut out, nodes);
     let len = put::end(&mut out, end, 1);
-    say::reading(title, &out, len);
-    say::lookup(&out, len, count - 1);
-    say::lookup(&out, len, count);
+    say::reading(to, title, &out, len)?;
+    say::lookup(to, &out, len, count - 1)?;
+    say::lookup(to, &out, len, count)
 }
 
-fn short() {
+fn short<W: Write>(to: &mut W) -> io::Result<()> {
     let mut out = [0u8; 8192];
     let len = put::format(&mut out);
-    say::reading(b"nothing", &out, 0);
-    say::reading(b"the format record alone", &out, len);
+    say::reading(to, b"nothing", &out, 0)?;
+    say::reading(to, b"the format record alone", &out, len)
 }
 
 // A Call under 55 Exists: 56 nodes, 56 deep.
@@ -78,19 +81,19 @@ fn towers(out: &mut [u8; 8192], at: usize) -> usize {
     end
 }
 
-fn largest() {
+fn largest<W: Write>(to: &mut W) -> io::Result<()> {
     let mut out = [0u8; 8192];
     let start = put::format(&mut out);
     let nodes = put::names(&mut out, start, b'a', 128);
     let end = towers(&mut out, nodes);
     let len = put::end(&mut out, end, 512);
-    say::reading(b"the largest", &out, len);
-    say::reading(b"a byte more", &out, len + 1);
-    say::reading(b"a byte less", &out, len - 1);
+    say::reading(to, b"the largest", &out, len)?;
+    say::reading(to, b"a byte more", &out, len + 1)?;
+    say::reading(to, b"a byte less", &out, len - 1)
 }
 
 // Not over a balanced tree of 128 tps, one for each name: 28 for each, and 31 for each.
-fn lists() {
+fn lists<W: Write>(to: &mut W) -> io::Result<()> {
     let mut out = [0u8; 8192];
     let start = put::format(&mut out);
     let nodes = put::names(&mut out, start, b'a', 128);
@@ -98,28 +101,29 @@ fn lists() {
     let nots = put::ands(&mut out, ands, 127);
     let end = put::stack(&mut out, nots, &NOT, 254, 255);
     let len = put::end(&mut out, end, 256);
-    say::reading(b"128 free names", &out, len);
+    say::reading(to, b"128 free names", &out, len)?;
     let mut exact = [7u32; 256];
     let mut short = [7u32; 255];
     let mut long = [7u32; 257];
     let mut none = [7u32; 1];
-    say::listing(&out, len, &mut exact);
-    say::listing(&out, len, &mut short);
-    say::listing(&out, len, &mut long);
-    say::listing(&out, len, &mut none);
-    say::listing(&out, len - 1, &mut none);
+    say::listing(to, &out, len, &mut exact)?;
+    say::listing(to, &out, len, &mut short)?;
+    say::listing(to, &out, len, &mut long)?;
+    say::listing(to, &out, len, &mut none)?;
+    say::listing(to, &out, len - 1, &mut none)
 }
 
-fn main() {
-    deep(b"64 deep", 64);
-    deep(b"65 deep", 65);
-    wide(b"512 nodes", 512);
-    wide(b"513 nodes", 513);
-    named(b"128 names", b'a', 128);
-    named(b"129 names", b'a', 129);
-    named(b"a name of 24 bytes", b'a', 1);
-    named(b"the same with a digit first", b'0', 1);
-    short();
-    largest();
-    lists();
+fn main(rt: HostRuntime) -> io::Result<()> {
+    let mut to = rt.stdout().lock();
+    deep(&mut to, b"64 deep", 64)?;
+    deep(&mut to, b"65 deep", 65)?;
+    wide(&mut to, b"512 nodes", 512)?;
+    wide(&mut to, b"513 nodes", 513)?;
+    named(&mut to, b"128 names", b'a', 128)?;
+    named(&mut to, b"129 names", b'a', 129)?;
+    named(&mut to, b"a name of 24 bytes", b'a', 1)?;
+    named(&mut to, b"the same with a digit first", b'0', 1)?;
+    short(&mut to)?;
+    largest(&mut to)?;
+    lists(&mut to)
 }

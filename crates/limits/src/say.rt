@@ -3,37 +3,40 @@ use paper::{Listing, NameNo, Verdict};
 use questions::list;
 use record::access::name;
 use record::reader::read;
+use std::io;
+use std::io::Write;
 
-fn text(bytes: &[u8]) {
-    io::write_all(1, bytes);
+fn text<W: Write>(to: &mut W, bytes: &[u8]) -> io::Result<()> {
+    to.write_all(bytes)
 }
 
-fn number(n: usize) {
-    io::print_decimal(1, n as u64);
+fn number<W: Write>(to: &mut W, n: usize) -> io::Result<()> {
+    write!(to, "{n}")
 }
 
-fn counted(n: usize, noun: &[u8]) {
-    number(n);
-    text(b" ");
-    text(noun);
+fn counted<W: Write>(to: &mut W, n: usize, noun: &[u8]) -> io::Result<()> {
+    number(to, n)?;
+    text(to, b" ")?;
+    text(to, noun)?;
     if n != 1 {
-        text(b"s");
+        text(to, b"s")?;
     }
+    Ok(())
 }
 
-fn verdict(v: Verdict) {
+fn verdict<W: Write>(to: &mut W, v: Verdict) -> io::Result<()> {
     match v {
         Verdict::Counts { names, nodes } => {
-            text(b"accepted, ");
-            counted(names, b"name");
-            text(b", ");
-            counted(nodes, b"node");
+            text(to, b"accepted, ")?;
+            counted(to, names, b"name")?;
+            text(to, b", ")?;
+            counted(to, nodes, b"node")
         }
         Verdict::Refused { number: n, offset } => {
-            text(b"refused ");
-            number(n as usize);
-            text(b" at byte ");
-            number(offset);
+            text(to, b"refused ")?;
+            number(to, n as usize)?;
+            text(to, b" at byte ")?;
+            number(to, offset)
         }
     }
 }
@@ -46,73 +49,79 @@ fn part(bytes: &[u8], len: usize) -> &[u8] {
 }
 
 // A line for the record that the first bytes of the array are.
-pub fn reading(title: &[u8], out: &[u8; 8192], len: usize) {
+pub fn reading<W: Write>(to: &mut W, title: &[u8], out: &[u8; 8192], len: usize) -> io::Result<()> {
     let bytes = part(out, len);
     let r = read(bytes);
     let v = r.verdict;
-    text(title);
-    text(b", ");
-    counted(bytes.len(), b"byte");
-    text(b": ");
-    verdict(v);
-    text(b"\n");
+    text(to, title)?;
+    text(to, b", ")?;
+    counted(to, bytes.len(), b"byte")?;
+    text(to, b": ")?;
+    verdict(to, v)?;
+    text(to, b"\n")
 }
 
 // A line for a name of that record.
-pub fn lookup(out: &[u8; 8192], len: usize, x: u8) {
+pub fn lookup<W: Write>(to: &mut W, out: &[u8; 8192], len: usize, x: u8) -> io::Result<()> {
     let found = name(part(out, len), NameNo(x));
-    text(b"  name ");
-    number(x as usize);
-    text(b", ");
-    counted(found.len(), b"byte");
-    text(b": \"");
-    text(found);
-    text(b"\"\n");
+    text(to, b"  name ")?;
+    number(to, x as usize)?;
+    text(to, b", ")?;
+    counted(to, found.len(), b"byte")?;
+    text(to, b": \"")?;
+    text(to, found)?;
+    text(to, b"\"\n")
 }
 
-fn listed(l: Listing) {
+fn listed<W: Write>(to: &mut W, l: Listing) -> io::Result<()> {
     match l {
         Listing::Listed(count) => {
-            number(count);
-            text(b" entries");
+            number(to, count)?;
+            text(to, b" entries")
         }
         Listing::NoRoom(needed) => {
-            text(b"50, ");
-            number(needed);
-            text(b" needed");
+            text(to, b"50, ")?;
+            number(to, needed)?;
+            text(to, b" needed")
         }
         Listing::Refused {
             number: n,
             offset: _,
         } => {
-            text(b"refused ");
-            number(n as usize);
+            text(to, b"refused ")?;
+            number(to, n as usize)
         }
     }
 }
 
-fn entry(v: u32) {
-    text(b", ");
-    number(v as usize);
+fn entry<W: Write>(to: &mut W, v: u32) -> io::Result<()> {
+    text(to, b", ")?;
+    number(to, v as usize)
 }
 
-fn entry_at(entries: &[u32], i: usize) {
+fn entry_at<W: Write>(to: &mut W, entries: &[u32], i: usize) -> io::Result<()> {
     if i < entries.len() {
-        entry(entries[i]);
+        entry(to, entries[i])?;
     }
+    Ok(())
 }
 
 // A line for the list of that record: the answer, and the first and the last entry of the buffer afterwards.
-pub fn listing(out: &[u8; 8192], len: usize, entries: &mut [u32]) {
+pub fn listing<W: Write>(
+    to: &mut W,
+    out: &[u8; 8192],
+    len: usize,
+    entries: &mut [u32],
+) -> io::Result<()> {
     let room = entries.len();
     let l = list(part(out, len), entries);
-    text(b"  a buffer of ");
-    number(room);
-    text(b": ");
-    listed(l);
-    entry_at(entries, 0);
+    text(to, b"  a buffer of ")?;
+    number(to, room)?;
+    text(to, b": ")?;
+    listed(to, l)?;
+    entry_at(to, entries, 0)?;
     if 0 < room {
-        entry_at(entries, room - 1);
+        entry_at(to, entries, room - 1)?;
     }
-    text(b"\n");
+    text(to, b"\n")
 }

@@ -1,15 +1,18 @@
 // Replays the Rust's answers on the proved library. Standard input is the stored list; README.md beside it says how it is made.
 #![tactic(auto)]
+
 mod line;
 mod stored;
 mod tally;
 
-ghost use Rattle.std.specs.Prelude.{◌<◌};
+ghost use Rattle.std.specs.Prelude.{◌<◌, ◌≤◌, IfOk};
 
 use names::empty;
 use octets::tail;
 use paper::{Answer, Arithmetic};
 use questions::{arithmetic, closedness, demands, scoping};
+use std::io;
+use std::io::{Lock, Read, Write};
 use stored::Said;
 use tally::Run;
 use writes::name_or_255;
@@ -55,63 +58,93 @@ fn said_of_arithmetic(a: Arithmetic) -> Said {
 }
 
 // Holds an answer about the first case of the list to the stored one, and counts it.
-fn hold(list: &[u8], question: usize, answer: Said, counts: &mut [u64; 320], run: Run) -> Run
+fn hold<W: Write>(
+    out: &mut W,
+    list: &[u8],
+    question: usize,
+    answer: Said,
+    counts: &mut [u64; 320],
+    run: Run,
+) -> io::Result<Run>
     requires { question < 5 }
 {
     tally::count(counts, question, answer.rule);
     let expected = stored::answer(list, question);
     if (expected.rule == answer.rule) & (expected.name == answer.name) {
-        return run;
+        return Ok(run);
     }
     if run.told < 10 {
-        line::difference(run.cases, question, expected, answer);
+        line::difference(out, run.cases, question, expected, answer)?;
     }
-    tally::differing(run)
+    Ok(tally::differing(run))
 }
 
 // Asks all that is stored of the first case of the list.
-fn replay(list: &[u8], counts: &mut [u64; 320], before: Run) -> Run {
+fn replay<W: Write>(
+    out: &mut W,
+    list: &[u8],
+    counts: &mut [u64; 320],
+    before: Run,
+) -> io::Result<Run> {
     let record = stored::record(list);
     let run = tally::next_case(before);
-    let one = hold(list, 0, said(scoping(record, empty())), counts, run);
+    let one = hold(out, list, 0, said(scoping(record, empty())), counts, run)?;
     let two = hold(
+        out,
         list,
         1,
         said(scoping(record, stored::seed(list))),
         counts,
         one,
-    );
-    let three = hold(list, 2, said(closedness(record)), counts, two);
-    let four = hold(list, 3, said(demands(record)), counts, three);
+    )?;
+    let three = hold(out, list, 2, said(closedness(record)), counts, two)?;
+    let four = hold(out, list, 3, said(demands(record)), counts, three)?;
     let five = hold(
+        out,
         list,
         4,
         said_of_arithmetic(arithmetic(record)),
         counts,
         four,
-    );
-    tally::closed(run, five)
+    )?;
+    Ok(tally::closed(run, five))
 }
 
-fn replay_all(list: &[u8], counts: &mut [u64; 320]) -> Run {
+fn replay_all<W: Write>(out: &mut W, list: &[u8], counts: &mut [u64; 320]) -> io::Result<Run> {
     let mut run = tally::start();
     let mut at = 0;
     while at < list.len() {
-        run = replay(tail(list, at), counts, run);
+        run = replay(out, tail(list, at), counts, run)?;
         at = stored::next(list, at);
     }
-    run
+    Ok(run)
 }
 
-fn main() {
-    let mut list = io::large_buffer();
-    let n = io::read_full(0, &mut list);
+// Reads until the buffer is full or the input ends, and answers how many bytes that were.
+fn read_full<R: Read>(from: &mut R, buffer: &mut [u8; 65536]) -> io::Result<usize>
+    ensures { IfOk result (λ n. n ≤ 65536) }
+{
+    let mut count = 0;
+    while count < 65536 {
+        let n = from.read(&mut buffer[count..])?;
+        if n == 0 {
+            break;
+        }
+        count += n;
+    }
+    Ok(count)
+}
+
+fn main(rt: HostRuntime) -> io::Result<()> {
+    let mut list = [0u8; 65536];
+    let n = read_full(&mut rt.stdin(), &mut list)?;
     let mut counts = [0u64; 320];
-    let run = replay_all(&list[..n], &mut counts);
-    line::counted(&counts, 0);
-    line::counted(&counts, 1);
-    line::counted(&counts, 2);
-    line::counted(&counts, 3);
-    line::counted(&counts, 4);
-    line::last(run);
+    let mut out = rt.stdout().lock();
+    let run = replay_all(&mut out, &list[..n], &mut counts)?;
+    line::counted(&mut out, &counts, 0)?;
+    line::counted(&mut out, &counts, 1)?;
+    line::counted(&mut out, &counts, 2)?;
+    line::counted(&mut out, &counts, 3)?;
+    line::counted(&mut out, &counts, 4)?;
+    line::last(&mut out, run)
 }

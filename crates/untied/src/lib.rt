@@ -1,11 +1,14 @@
 // What a person is told of an equality that ties nothing: behind it on the tree, and below an entry that it has to do with.
 #![tactic(auto)]
+
 mod uses;
 
 use labels::children::children_of;
 use labels::text::described;
 use lookup::{Asked, equality, node};
 use paper::{Equality, Finding, NameNo, NodeNo, Reason, Subject};
+use std::io;
+use std::io::Write;
 use uses::{binds, uses};
 use wording::reasons::untied;
 use wording::say::{number, text};
@@ -29,78 +32,83 @@ fn reason_at(record: &[u8], i: NodeNo) -> Untied {
 }
 
 // At the end of the node's line on the tree.
-pub fn behind(record: &[u8], i: NodeNo) {
+pub fn behind<W: Write>(out: &mut W, record: &[u8], i: NodeNo) -> io::Result<()> {
     let reason = reason_at(record, i);
     if let Untied::Because(why) = reason {
-        text(b"  ~ ties nothing: ");
-        untied(why);
+        text(out, b"  ~ ties nothing: ")?;
+        untied(out, why)?;
     }
+    Ok(())
 }
 
 // An entry stands at the equality.
-fn itself(record: &[u8], i: NodeNo) {
+fn itself<W: Write>(out: &mut W, record: &[u8], i: NodeNo) -> io::Result<()> {
     let reason = reason_at(record, i);
     if let Untied::Because(why) = reason {
-        text(b"   This equality ties nothing: ");
-        untied(why);
-        text(b".\n");
+        text(out, b"   This equality ties nothing: ")?;
+        untied(out, why)?;
+        text(out, b".\n")?;
     }
+    Ok(())
 }
 
-fn elsewhere(record: &[u8], i: NodeNo, why: Reason) {
-    text(b"   Node ");
-    number(i.0 as usize);
-    text(b" (");
-    described(record, i);
-    text(b") ties nothing: ");
-    untied(why);
-    text(b".\n");
+fn elsewhere<W: Write>(out: &mut W, record: &[u8], i: NodeNo, why: Reason) -> io::Result<()> {
+    text(out, b"   Node ")?;
+    number(out, i.0 as usize)?;
+    text(out, b" (")?;
+    described(out, record, i)?;
+    text(out, b") ties nothing: ")?;
+    untied(out, why)?;
+    text(out, b".\n")
 }
 
 // The node, if it is an equality that has the name.
-fn one_inside(record: &[u8], i: NodeNo, name: NameNo) {
+fn one_inside<W: Write>(out: &mut W, record: &[u8], i: NodeNo, name: NameNo) -> io::Result<()> {
     let reason = reason_at(record, i);
     if let Untied::Because(why) = reason {
         if uses(record, i, name) {
-            elsewhere(record, i, why);
+            elsewhere(out, record, i, why)?;
         }
     }
+    Ok(())
 }
 
 // Each equality at the node or below it that has the name. Below a binder of the same name, another one is meant.
-fn inside(record: &[u8], i: NodeNo, name: NameNo) {
+fn inside<W: Write>(out: &mut W, record: &[u8], i: NodeNo, name: NameNo) -> io::Result<()> {
     let n = node(record, i);
     if binds(record, n, name) {
-        return;
+        return Ok(());
     }
-    one_inside(record, i, name);
+    one_inside(out, record, i, name)?;
     let children = children_of(n);
     let first = children.first;
     let second = children.second;
     if first.0 < i.0 {
-        inside(record, first, name);
+        inside(out, record, first, name)?;
     }
     if second.0 < i.0 {
-        inside(record, second, name);
+        inside(out, record, second, name)?;
     }
+    Ok(())
 }
 
 // The body of an exists that does not tie its name.
-fn in_body(record: &[u8], exists: NodeNo, whom: Subject) {
+fn in_body<W: Write>(out: &mut W, record: &[u8], exists: NodeNo, whom: Subject) -> io::Result<()> {
     let n = node(record, exists);
     let body = children_of(n).first;
     if let Subject::Name(name) = whom {
-        inside(record, body, name);
+        inside(out, record, body, name)?;
     }
+    Ok(())
 }
 
 // Below an entry, where it helps: of 31 about the equality that it stands at, of 23 about those that could have tied the name.
-pub fn below(record: &[u8], entry: Finding) {
+pub fn below<W: Write>(out: &mut W, record: &[u8], entry: Finding) -> io::Result<()> {
     let rule = entry.rule;
     let whom = entry.name;
     match rule {
-        23 => in_body(record, entry.node, whom),
-        31 => itself(record, entry.node),
-        _ => {}
+        23 => in_body(out, record, entry.node, whom),
+        31 => itself(out, record, entry.node),
+        _ => Ok(()),
     }
 }

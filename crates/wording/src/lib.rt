@@ -1,5 +1,6 @@
 // What a person is told of an entry and of a refusal.
 #![tactic(auto)]
+
 pub mod lines;
 pub mod reasons;
 pub mod refusals;

@@ -2,6 +2,8 @@
 ghost use Rattle.std.specs.Prelude.{◌≤◌, ◌<◌, length};
 
 use crate::say::text;
+use std::io;
+use std::io::Write;
 
 // The two digits that a line begins with.
 #[derive(Clone, Copy)]
@@ -52,32 +54,33 @@ fn behind_key(line: &[u8]) -> &[u8] {
 }
 
 // The words of a line, with the name where they ask for it.
-fn fill(words: &[u8], name: &[u8]) {
+fn fill<W: Write>(out: &mut W, words: &[u8], name: &[u8]) -> io::Result<()> {
     let mut at = 0;
     while at < words.len() {
         let mark = found(words, at, b'@');
-        text(&words[at..mark]);
+        text(out, &words[at..mark])?;
         if mark == words.len() {
-            return;
+            return Ok(());
         }
-        text(name);
+        text(out, name)?;
         at = mark + 1;
     }
+    Ok(())
 }
 
 // What a table has for a key; nothing where it has no such line.
-pub fn say(table: &[u8], key: Key, name: &[u8]) {
+pub fn say<W: Write>(out: &mut W, table: &[u8], key: Key, name: &[u8]) -> io::Result<()> {
     let mut at = 0;
     while at < table.len() {
         let end = found(table, at, b'\n');
         let line = &table[at..end];
         if has_key(line, key) {
-            fill(behind_key(line), name);
-            return;
+            return fill(out, behind_key(line), name);
         }
         if end == table.len() {
-            return;
+            return Ok(());
         }
         at = end + 1;
     }
+    Ok(())
 }

@@ -1,7 +1,9 @@
 // What each refusal of the reader says, and what to do about it.
 use crate::lines::{decimal, say};
+use std::io;
+use std::io::Write;
 
-pub fn fault(refusal: u8) {
+pub fn fault<W: Write>(out: &mut W, refusal: u8) -> io::Result<()> {
     let table = b"\
 01 the file ends too early\n\
 02 what stands there is no known record, or is out of order\n\
@@ -16,11 +18,11 @@ pub fn fault(refusal: u8) {
 11 two nodes refer to the same one\n\
 12 the end record's count of nodes is wrong, or something follows it\n\
 13 there is no condition, or there is a node that no other refers to\n";
-    say(table, decimal(refusal), b"");
+    say(out, table, decimal(refusal), b"")
 }
 
 // What the person who sent the file can do.
-pub fn advice(refusal: u8) {
+pub fn advice<W: Write>(out: &mut W, refusal: u8) -> io::Result<()> {
     let table = b"\
 01 it was cut on its way: save or send it again from the editor.\n\
 02 check that this is the right file, and that the editor is not newer.\n\
@@ -35,5 +37,5 @@ pub fn advice(refusal: u8) {
 11 the editor is at fault: save the rule again, or report this line.\n\
 12 the editor is at fault: save the rule again, or report this line.\n\
 13 the editor is at fault: save the rule again, or report this line.\n";
-    say(table, decimal(refusal), b"");
+    say(out, table, decimal(refusal), b"")
 }

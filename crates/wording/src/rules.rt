@@ -1,9 +1,11 @@
 // What each rule of the list says to the person who writes the condition. To tie a name is what document 01 calls to restrict it: an event, a tp or an
 // equality gives it a value.
 use crate::lines::{decimal, say};
+use std::io;
+use std::io::Write;
 
 // What is wrong, in a few words: a line of the tree has to hold them.
-pub fn wrong(rule: u8, name: &[u8]) {
+pub fn wrong<W: Write>(out: &mut W, rule: u8, name: &[u8]) -> io::Result<()> {
     let table = b"\
 20 a sum or count may not stand here\n\
 21 arithmetic may not stand here\n\
@@ -17,11 +19,11 @@ pub fn wrong(rule: u8, name: &[u8]) {
 30 nothing before this equality ties @\n\
 31 nothing before this ties @\n\
 32 nothing ties @ left of this `since`\n";
-    say(table, decimal(rule), name);
+    say(out, table, decimal(rule), name)
 }
 
 // Why that matters, as the end of the sentence.
-pub fn why(rule: u8, name: &[u8]) {
+pub fn why<W: Write>(out: &mut W, rule: u8, name: &[u8]) -> io::Result<()> {
     let table = b"\
 20 it can only be a side of a comparison\n\
 21 it can only be a side of a comparison\n\
@@ -35,10 +37,10 @@ pub fn why(rule: u8, name: &[u8]) {
 30 its other side needs @ first\n\
 31 @ has no value here yet\n\
 32 no part before it, nor its right side\n";
-    say(table, decimal(rule), name);
+    say(out, table, decimal(rule), name)
 }
 
-pub fn mend(rule: u8, name: &[u8]) {
+pub fn mend<W: Write>(out: &mut W, rule: u8, name: &[u8]) -> io::Result<()> {
     let table = b"\
 20 say `n == count ..` in a comparison, and use n here.\n\
 21 say `n == a + b` in a comparison, and use n here.\n\
@@ -52,5 +54,5 @@ pub fn mend(rule: u8, name: &[u8]) {
 30 to its left, joined by `and`, put an event with @, or @ == value.\n\
 31 to its left, joined by `and`, put an event with @, or @ == value.\n\
 32 use @ in an event on its right side, or in one before it.\n";
-    say(table, decimal(rule), name);
+    say(out, table, decimal(rule), name)
 }

@@ -1,19 +1,21 @@
-// Text on standard output.
-use libc::STDOUT_FILENO;
+// Text on a writer, as standard output.
+use std::io;
+use std::io::Write;
 
-pub fn text(words: &[u8]) {
-    io::write_all(STDOUT_FILENO, words);
+pub fn text<W: Write>(out: &mut W, words: &[u8]) -> io::Result<()> {
+    out.write_all(words)
 }
 
-pub fn number(n: usize) {
-    io::print_decimal(STDOUT_FILENO, n as u64);
+pub fn number<W: Write>(out: &mut W, n: usize) -> io::Result<()> {
+    write!(out, "{n}")
 }
 
-pub fn counted(n: usize, noun: &[u8]) {
-    number(n);
-    text(b" ");
-    text(noun);
+pub fn counted<W: Write>(out: &mut W, n: usize, noun: &[u8]) -> io::Result<()> {
+    number(out, n)?;
+    text(out, b" ")?;
+    text(out, noun)?;
     if n != 1 {
-        text(b"s");
+        text(out, b"s")?;
     }
+    Ok(())
 }
