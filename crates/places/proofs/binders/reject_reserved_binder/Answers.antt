@@ -1,4 +1,3 @@
-
 use mathlib.Core.Path.{refl, ap₂, ◌∙◌}
 use borrow.Author.Rules.{rules}
 use Rattle.paper.specs.Sets.{◌∩◌}

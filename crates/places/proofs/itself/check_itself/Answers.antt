@@ -17,13 +17,13 @@ pub itself_at-requires : goal.itself_at-requires
 itself_at-requires c = c.requires.has.0
 
 pub check_exists_binder-requires : goal.check_exists_binder-requires
-check_exists_binder-requires c = let a = (told (goal.at.check_exists_binder-requires c).After-itself_at c.in-Exists.is).1 in  record { tabled = (slot_tabled c.in-Exists.slot a.tabled, a.children.0.has.1, c.requires.has.1, a_body _ a.children.0.fits); room = room_is (itself_exists _ a) c.requires.room }
+check_exists_binder-requires c = let a = (told (goal.at.check_exists_binder-requires c).After-itself_at c.in-Exists.is).1 in record { tabled = (slot_tabled c.in-Exists.slot a.tabled, a.children.0.has.1, c.requires.has.1, a_body _ a.children.0.fits); room = room_is (itself_exists _ a) c.requires.room }
 
 pub reject_nested_agg-requires : goal.reject_nested_agg-requires
-reject_nested_agg-requires c = let a = (told (goal.at.reject_nested_agg-requires c).After-itself_at c.in-Predicate.is).1 in  record { has = a.children.0.has; room = room_is (itself_predicate _ a) c.requires.room }
+reject_nested_agg-requires c = let a = (told (goal.at.reject_nested_agg-requires c).After-itself_at c.in-Predicate.is).1 in record { has = a.children.0.has; room = room_is (itself_predicate _ a) c.requires.room }
 
 pub reject_reserved_binder-requires : goal.reject_reserved_binder-requires
-reject_reserved_binder-requires c = let a = told (goal.at.reject_reserved_binder-requires c).After-itself_at c.in-Tp.is in  record { tabled = slot_tabled c.in-Tp.slot a.tabled; room = room_is (itself_tp _ a) c.requires.room }
+reject_reserved_binder-requires c = let a = told (goal.at.reject_reserved_binder-requires c).After-itself_at c.in-Tp.is in record { tabled = slot_tabled c.in-Tp.slot a.tabled; room = room_is (itself_tp _ a) c.requires.room }
 
 pub returns-in-Exists : goal.returns-in-Exists
 returns-in-Exists c = wrote_is (itself_exists _ (told (goal.at.returns-in-Exists c).After-itself_at c.in-Exists.is).1) c.check_exists_binder.ensures
