@@ -21,4 +21,4 @@ pub returns : goal.returns
 returns c = wrote_is (passed_over _ c.if-asked.false) wrote_none
 
 pub check_conjunct_demands-requires : goal.check_conjunct_demands-requires
-check_conjunct_demands-requires c = let s = c.requires in (s.0, room_is (picked _ c.if-asked.true) s.1)
+check_conjunct_demands-requires c = record { has = c.requires.has; room = room_is (picked _ c.if-asked.true) c.requires.room }
