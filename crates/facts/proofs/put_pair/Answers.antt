@@ -5,13 +5,13 @@ use Rattle.known.proofs.NodeLaws.{sound, own_put}
 use Rattle.facts.proofs.put_pair.Goals as goal
 
 pub pair_facts-f-requires : goal.pair_facts-f-requires
-pair_facts-f-requires c = (c.requires.0.0, c.requires.0.2, sound c.requires.0.0 refl c.requires.0.1 c.requires.1)
+pair_facts-f-requires c = (c.requires.has.0, c.requires.has.2, sound c.requires.has.0 refl c.requires.has.1 c.requires.all)
 
 pub put_facts-requires : goal.put_facts-requires
-put_facts-requires c = c.requires.0.1
+put_facts-requires c = c.requires.has.1
 
 pub shape_of-rows : goal.shape_of-rows
 shape_of-rows c = put_long c.put_facts.ensures
 
 pub returns : goal.returns
-returns c = own_put c.requires.0.0 refl c.pair_facts-f.ensures c.requires.0.1 c.put_facts.ensures
+returns c = own_put c.requires.has.0 refl c.pair_facts-f.ensures c.requires.has.1 c.put_facts.ensures
