@@ -1,5 +1,6 @@
 // The entries of an aggregate, before its body's.
 #![tactic(auto)]
+
 ghost use Rattle.std.specs.Prelude.{◌≡◌, true, ◌<◌, length};
 ghost use Rattle.paper.specs.Places.{gather, findings};
 ghost use Rattle.names.specs.Words.{mem};
