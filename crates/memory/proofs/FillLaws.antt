@@ -1,18 +1,16 @@
 -- How columns are filled: the record that a node's word is made of, and one record after the other. Assumes nothing.
-use mathlib.Core.Path.{◌≡◌, refl, sym, ap, ap₂, ◌∙◌}
-use mathlib.Core.List.{List, [], ◌∷◌}
+use mathlib.Core.Path.{◌≡◌, sym, ap, ap₂, ◌∙◌}
+use mathlib.Core.List.{List}
 use Prim.Native.Nat.{ℕ, ◌+◌, ◌*◌, ◌/◌, ◌%◌, ◌<◌, ◌≤◌}
 use native.Mathlib.Omega.{arith}
 use native.Mathlib.Decide.{ℕ_discrete}
 use lib.ListN.{length, get_or, drop, set, length-set}
 use lib.Seq.{get_or-drop, get_or-set_same, get_or-set_other}
-use Rattle.paper.specs.declared.Node.{Node}
-use Rattle.paper.specs.Record.{announced}
 use Rattle.octets.specs.Eights.{eight}
-use Rattle.memory.specs.Decoded.{node_read, node_from}
+use Rattle.memory.specs.Decoded.{node_from}
 use Rattle.memory.specs.Columns.{node_told, places_in, node_in, in_columns, Copies}
 use Rattle.memory.proofs.FieldLaws.{two_bytes_at}
-use Rattle.memory.proofs.ColumnLaws.{Octets, number_at, numbers_at, told_same}
+use Rattle.memory.proofs.ColumnLaws.{Octets, number_at, told_same}
 
 -- ---- a record
 

@@ -9,7 +9,7 @@ use native.Mathlib.Decide.{dec_lt}
 use native.Mathlib.Numerals.{add-one}
 use lib.ListN.{length, take, drop, get_or, length-append, get_or-append}
 use lib.Seq.{drop-drop, get_or-drop}
-use Rattle.paper.specs.Record.{name_bytes, node}
+use Rattle.paper.specs.Record.{name_bytes}
 use Rattle.paper.specs.TurnedAway.{Seen, unseen, SoFar, nothing_read}
 use Rattle.paper.proofs.Runs.{Went, went_format, went_name, went_node, seen_node, last_of}
 use Rattle.memory.specs.Decoded.{node_read, node_from}

@@ -1,7 +1,7 @@
 -- A view of a node by its kind: in the arm of a match that names the kind, and for the kinds that it does not name. Assumes nothing.
-use mathlib.Core.Path.{◌≡◌, refl, sym, ap, ◌∙◌}
+use mathlib.Core.Path.{◌≡◌, sym, ap, ◌∙◌}
 use mathlib.Core.Bool.{true}
-use mathlib.Core.List.{List, [], ◌∷◌, ◌++◌}
+use mathlib.Core.List.{List, ◌++◌}
 use Prim.Native.Nat.{ℕ}
 use Rattle.paper.proofs.Walks.{All}
 use Rattle.paper.specs.declared.Node.{Node}

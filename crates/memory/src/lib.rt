@@ -1,5 +1,6 @@
 // What the reader keeps in memory, as types: definitions over them in specs/, laws in proofs/. No code.
 #![tactic(auto)]
+
 use names::Names;
 use paper::Verdict;
 

@@ -1,10 +1,10 @@
 -- Two sets of names have none in common where the set of their common names is empty, and no name is left where one is within the other. Assumes nothing.
 use mathlib.Core.Path.{◌≡◌, refl, sym, ap, ◌∙◌}
 use mathlib.Core.Bool.{Bool, true, false, not, ◌&&◌, true≢false}
-use Prim.Native.Nat.{ℕ, ◌<◌, ◌≤◌, ◌^◌}
+use Prim.Native.Nat.{ℕ, ◌<◌, ◌^◌}
 use native.Mathlib.Omega.{arith}
 use native.Mathlib.Decide.{dec_lt}
-use Rattle.paper.specs.Sets.{Set, ◌∩◌, ◌∖◌, outside, all_below}
+use Rattle.paper.specs.Sets.{Set, ◌∩◌, outside, all_below}
 use Rattle.paper.proofs.SetLaws.{all_get}
 use Rattle.names.specs.declared.Names.{Names}
 use Rattle.names.specs.Words.{mem}

@@ -16,7 +16,7 @@ use Rattle.paper.specs.Tree.Arguments.{no_argument, argument}
 use Rattle.paper.specs.Tree.Items.{no_item, item}
 use Rattle.paper.specs.FreeAndRestricted.{is_sigil, holds_sigil}
 use Rattle.paper.specs.Places.{Spot, condition, operand, searched, searched_arguments, searched_items, Place, asked_at}
-use Rattle.paper.specs.Places.{Broken, Unmet, Located, Earlier, Precedes, Exactly, findings, spot_size, found}
+use Rattle.paper.specs.Places.{Broken, Unmet, Located, Earlier, Precedes, Exactly, spot_size, found}
 use Rattle.paper.specs.Scoping.{reserved, binder_sigil, scope_below, scope_broken, ScopingUnmet, scoping_part}
 use Rattle.paper.specs.Demands.{closedness_broken, ClosednessUnmet, closedness_part, demand_below, demand_broken, DemandUnmet, demands_part}
 use Rattle.paper.proofs.Equalities.{broken_cases}

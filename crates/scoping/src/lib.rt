@@ -1,5 +1,6 @@
 // Scoping: 20 to 27.
 #![tactic(auto)]
+
 ghost use Rattle.std.specs.Prelude.{◌≡◌, true};
 ghost use Rattle.paper.specs.Places.{condition, operand};
 ghost use Rattle.names.specs.Words.{mem};

@@ -1,4 +1,3 @@
-
 use Rattle.names.proofs.Bits.{mem_common}
 use Rattle.names.proofs.common.Goals as goal
 

@@ -1,4 +1,3 @@
-
 use Rattle.names.proofs.Bits.{mem_none}
 use Rattle.names.proofs.empty.Goals as goal
 

@@ -1,4 +1,3 @@
-
 use borrow.Author.Rules.{rules}
 use Rattle.names.proofs.Bits.{mem_empty}
 use Rattle.names.proofs.is_empty.Goals as goal

@@ -1,4 +1,3 @@
-
 use Rattle.names.proofs.LeastLaws.{trailing}
 use Rattle.names.proofs.lowest.Goals as goal
 

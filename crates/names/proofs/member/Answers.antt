@@ -1,4 +1,3 @@
-
 use Rattle.names.proofs.Bits.{has_low, has_high, mem_past}
 use borrow.Author.Rules.{rules}
 use Rattle.names.proofs.member.Goals as goal

@@ -1,4 +1,3 @@
-
 use Rattle.names.proofs.Bits.{mem_minus}
 use Rattle.names.proofs.minus.Goals as goal
 

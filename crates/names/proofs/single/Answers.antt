@@ -1,4 +1,3 @@
-
 use Rattle.names.proofs.Bits.{mem_low, mem_high}
 use borrow.Author.Rules.{rules}
 use Rattle.names.proofs.single.Goals as goal

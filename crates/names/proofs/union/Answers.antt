@@ -1,4 +1,3 @@
-
 use Rattle.names.proofs.Bits.{mem_union}
 use Rattle.names.proofs.union.Goals as goal
 

@@ -1,4 +1,3 @@
-
 use Rattle.names.proofs.Bits.{mem_out_low, mem_out_high}
 use borrow.Author.Rules.{rules}
 use Rattle.names.proofs.without.Goals as goal

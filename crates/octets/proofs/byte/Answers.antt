@@ -1,7 +1,6 @@
 -- `byte` gives 0 past the end, as the definitions' lists do.
 use mathlib.Core.Path.{sym}
 use lib.ListN.{get_or-eq_default}
-use borrow.Author.Rules.{rules}
 use Rattle.octets.proofs.byte.Goals as goal
 
 pub returns-else-i-b : goal.returns-else-i-b

@@ -1,6 +1,5 @@
 -- A refusal is passed on as closedness answers it.
 use mathlib.Core.Path.{sym, ap}
-use borrow.Author.Rules.{rules}
 use Rattle.refusals.specs.Passed.{answer_passed}
 use Rattle.refusals.proofs.passed_answer.Goals as goal
 

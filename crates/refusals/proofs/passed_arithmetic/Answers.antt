@@ -1,6 +1,5 @@
 -- A refusal is passed on as the arithmetic test answers it.
 use mathlib.Core.Path.{sym, ap}
-use borrow.Author.Rules.{rules}
 use Rattle.refusals.specs.Passed.{arithmetic_passed}
 use Rattle.refusals.proofs.passed_arithmetic.Goals as goal
 

@@ -1,6 +1,5 @@
 -- A refusal is passed on as the list answers it.
 use mathlib.Core.Path.{sym, ap}
-use borrow.Author.Rules.{rules}
 use Rattle.refusals.specs.Passed.{listing_passed}
 use Rattle.refusals.proofs.passed_listing.Goals as goal
 

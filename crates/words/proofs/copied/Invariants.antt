@@ -1,11 +1,7 @@
 -- `copied` hands back the first 24 bytes. The loop's invariant: the bytes passed are those of the slice.
-use Prim.Native.Nat.{ℕ, ◌≤◌, ◌<◌, ◌-◌}
-use mathlib.Core.Path.{◌≡◌, refl, sym, ap, ◌∙◌}
-use native.Mathlib.Numerals.{add-one}
-use native.Mathlib.Omega.{arith}
-use lib.ListN.{length, take, length-set}
-use lib.Seq.{take_all, take-suc, take-suc-set}
-use borrow.Author.Rules.{rules}
+use Prim.Native.Nat.{◌≤◌, ◌-◌}
+use mathlib.Core.Path.{◌≡◌}
+use lib.ListN.{length, take}
 use Rattle.words.proofs.copied.Given as goal
 
 abbrev pub invariant-loop-at : goal.invariant-loop-at

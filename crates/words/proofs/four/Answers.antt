@@ -1,6 +1,5 @@
 -- `four` joins the bytes in their order. Assumes nothing.
 use native.Mathlib.Omega.{arith}
-use borrow.Author.Rules.{rules}
 use Rattle.words.proofs.four.Goals as goal
 
 pub returns : goal.returns

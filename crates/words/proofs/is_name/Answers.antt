@@ -1,12 +1,7 @@
 -- `is_name` tests a name's form. The loop's invariant: the bytes passed are well, as `ok` says, and what is left may follow the last of them.
-use Prim.Native.Nat.{◌≤◌, ◌-◌}
-use mathlib.Core.Path.{◌≡◌, sym, ◌∙◌}
-use mathlib.Core.Bool.{◌&&◌}
+use mathlib.Core.Path.{sym, ◌∙◌}
 use native.Mathlib.Omega.{arith}
-use lib.ListN.{drop}
-use borrow.Author.Rules.{rules}
-use Rattle.paper.specs.Record.{is_name}
-use Rattle.words.proofs.Form.{joined, none_left, after, after_step, after_end, is_name_start}
+use Rattle.words.proofs.Form.{joined, none_left, after_step, after_end, is_name_start}
 use Rattle.words.proofs.is_name.Goals as goal
 
 pub loop-i-init : goal.loop-i-init

@@ -1,12 +1,10 @@
 -- `is_name` tests a name's form. The loop's invariant: the bytes passed are well, as `ok` says, and what is left may follow the last of them.
 use Prim.Native.Nat.{◌≤◌, ◌-◌}
-use mathlib.Core.Path.{◌≡◌, sym, ◌∙◌}
+use mathlib.Core.Path.{◌≡◌}
 use mathlib.Core.Bool.{◌&&◌}
-use native.Mathlib.Omega.{arith}
 use lib.ListN.{drop}
-use borrow.Author.Rules.{rules}
 use Rattle.paper.specs.Record.{is_name}
-use Rattle.words.proofs.Form.{joined, none_left, after, after_step, after_end, is_name_start}
+use Rattle.words.proofs.Form.{after}
 use Rattle.words.proofs.is_name.Given as goal
 
 abbrev pub invariant-loop-i : goal.invariant-loop-i

@@ -1,12 +1,8 @@
 -- `text_length` counts the bytes before the padding. The loop's invariant: that many are passed and not zero, and what is left adds its own.
 use Prim.Native.Nat.{◌+◌, ◌≤◌, ◌-◌}
-use mathlib.Core.Path.{◌≡◌, ap}
-use native.Mathlib.Omega.{arith}
+use mathlib.Core.Path.{◌≡◌}
 use lib.ListN.{length, drop}
-use borrow.Author.Rules.{rules}
-use borrow.Author.Tests.{eq-eqb, ne_eqb}
 use Rattle.paper.specs.TheList.{trimmed}
-use Rattle.words.proofs.Padding.{trimmed_zero, trimmed_more, trimmed_end}
 use Rattle.words.proofs.text_length.Given as goal
 
 abbrev pub invariant-loop-len : goal.invariant-loop-len

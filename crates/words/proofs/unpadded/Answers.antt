@@ -3,7 +3,6 @@ use mathlib.Core.Path.{sym}
 use native.Mathlib.Omega.{arith}
 use lib.Seq.{length-take-le}
 use Rattle.words.proofs.Padding.{trimmed_front}
-use borrow.Author.Rules.{rules}
 use Rattle.words.proofs.unpadded.Goals as goal
 
 pub slice_bounds-result-end : goal.slice_bounds-result-end

@@ -1,5 +1,4 @@
 -- `word_byte` is a letter or a digit, by what `letter` ensures. Assumes nothing.
-use borrow.Author.Rules.{rules}
 use Rattle.words.proofs.word_byte.Goals as goal
 
 pub returns : goal.returns
