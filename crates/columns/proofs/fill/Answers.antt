@@ -1,10 +1,8 @@
 -- `fill` goes from node to node: the columns have those before it. Assumes nothing.
 use mathlib.Core.Path.{ap, ◌∙◌}
-use Prim.Native.Nat.{◌-◌}
 use native.Mathlib.Omega.{arith}
 use Rattle.memory.specs.Columns.{in_columns}
-use Rattle.memory.proofs.FillLaws.{FirstCopied, none_yet, one_more, all_copied}
-use borrow.Author.Rules.{rules}
+use Rattle.memory.proofs.FillLaws.{none_yet, one_more, all_copied}
 use Rattle.columns.proofs.fill.Goals as goal
 
 pub loop-i-init : goal.loop-i-init

@@ -1,10 +1,6 @@
 -- `fill` goes from node to node: the columns have those before it. Assumes nothing.
-use mathlib.Core.Path.{ap, ◌∙◌}
 use Prim.Native.Nat.{◌-◌}
-use native.Mathlib.Omega.{arith}
-use Rattle.memory.specs.Columns.{in_columns}
-use Rattle.memory.proofs.FillLaws.{FirstCopied, none_yet, one_more, all_copied}
-use borrow.Author.Rules.{rules}
+use Rattle.memory.proofs.FillLaws.{FirstCopied}
 use Rattle.columns.proofs.fill.Given as goal
 
 abbrev pub invariant-loop-i : goal.invariant-loop-i

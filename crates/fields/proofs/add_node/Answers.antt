@@ -1,7 +1,6 @@
 -- `add_node` meets its contract: what it puts is what `checked` found. Assumes nothing.
 use mathlib.Core.Path.{refl, sym, ap, ◌∙◌}
 use native.Mathlib.Omega.{arith}
-use borrow.Author.Rules.{rules}
 use Rattle.memory.specs.Fields.{Marked}
 use Rattle.memory.proofs.FieldLaws.{shallow}
 use Rattle.fields.proofs.add_node.Goals as goal

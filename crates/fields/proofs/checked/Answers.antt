@@ -1,8 +1,6 @@
-
 use mathlib.Core.Path.{sym, ◌∙◌}
 use borrow.Author.Tests.{eq-eqb, ne_eqb, le-leb, lt-leb}
 use Rattle.memory.specs.Fields.{checked_in}
-use borrow.Author.Rules.{rules}
 use Rattle.fields.proofs.checked.Goals as goal
 
 pub returns-then-first_bad : goal.returns-then-first_bad

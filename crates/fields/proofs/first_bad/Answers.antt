@@ -1,6 +1,5 @@
 -- `first_bad` looks at no byte where the row has no range, as `out_of_range` of 0 is none. Assumes nothing.
 use Rattle.memory.specs.Fields.{out_of_range}
-use borrow.Author.Rules.{rules}
 use Rattle.fields.proofs.first_bad.Goals as goal
 
 pub returns-then-range-eq0 : goal.returns-then-range-eq0

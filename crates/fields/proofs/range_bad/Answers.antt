@@ -1,6 +1,4 @@
-
 use Rattle.memory.specs.Fields.{out_of_range}
-use borrow.Author.Rules.{rules}
 use Rattle.fields.proofs.range_bad.Goals as goal
 
 pub returns : goal.returns

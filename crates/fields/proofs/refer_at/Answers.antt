@@ -1,8 +1,6 @@
-
 use borrow.Author.Tests.{eq-eqb, ne_eqb}
 use Rattle.memory.specs.Fields.{refer_if}
 use Rattle.memory.proofs.FieldLaws.{two_bytes_at}
-use borrow.Author.Rules.{rules}
 use Rattle.fields.proofs.refer_at.Goals as goal
 
 pub returns-then-sort-eq0 : goal.returns-then-sort-eq0

@@ -1,4 +1,3 @@
-
 use borrow.Author.Tests.{ne_eqb}
 use Rattle.memory.specs.Rows.{fitting}
 use Rattle.kinds.proofs.fitting.Goals as goal
