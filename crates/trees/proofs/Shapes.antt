@@ -1,5 +1,5 @@
 -- Nodes of several kinds that a walk meets in one arm, and what holds of the references of such a node. Assumes nothing.
-use mathlib.Core.Path.{◌≡◌, sym, ap, ap₂, ◌∙◌, subst}
+use mathlib.Core.Path.{◌≡◌, sym, ap₂, ◌∙◌, subst}
 use mathlib.Core.List.{List}
 use Prim.Native.Nat.{ℕ}
 use Rattle.paper.specs.declared.NodeNo.{NodeNo}

@@ -4,7 +4,6 @@ use mathlib.Core.Path.{◌≡◌, sym, ap, ap₂, ◌∙◌}
 use mathlib.Core.List.{List}
 use Prim.Native.Nat.{ℕ, ◌+◌, ◌≤◌, ◌<◌, ◌-◌}
 use native.Mathlib.Omega.{arith}
-use borrow.Author.Rules.{rules}
 use borrow.Author.Tests.{eq-eqb, ne_eqb}
 use lib.ListN.{length, get_or, drop, take, length-drop}
 use lib.Seq.{take_all}
@@ -16,7 +15,7 @@ use Rattle.memory.specs.Fields.{Marked, checked_in}
 use Rattle.memory.specs.Heads.{head_by}
 use Rattle.memory.specs.declared.Row.{Row}
 use Rattle.memory.proofs.KindLaws.{row_length, class_name}
-use Rattle.memory.proofs.ReadLaws.{Looped, counts, out, bad_turn, format_bad, format_turn, name_bad, name_turn, node_bad, node_turn_by, end_verdict, end_holds, refused_scan, loop_start}
+use Rattle.memory.proofs.ReadLaws.{counts, out, bad_turn, format_bad, format_turn, name_bad, name_turn, node_bad, node_turn_by, end_verdict, end_holds, refused_scan, loop_start}
 use Rattle.scan.proofs.scan_records.Goals as goal
 use Rattle.scan.proofs.scan_records.Goals.{After-head_of}
 

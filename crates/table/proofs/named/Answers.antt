@@ -1,8 +1,7 @@
 -- `named` meets its contract: each return has the tests that led to it. Assumes nothing.
 use mathlib.Core.Path.{sym, ◌∙◌}
-use borrow.Author.Tests.{eq-eqb, ne_eqb, not-true, not-false}
+use borrow.Author.Tests.{eq-eqb, ne_eqb}
 use Rattle.memory.specs.Naming.{named_in}
-use borrow.Author.Rules.{rules}
 use Rattle.table.proofs.named.Goals as goal
 
 pub returns-then-not-is_name : goal.returns-then-not-is_name

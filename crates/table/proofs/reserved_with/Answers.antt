@@ -6,7 +6,6 @@ use native.Mathlib.Omega.{arith}
 use Rattle.paper.specs.Sets.{Set, only, ◌∪◌}
 use Rattle.names.specs.Words.{mem}
 use Rattle.memory.proofs.NameLaws.{reserved_yes, reserved_no}
-use borrow.Author.Rules.{rules}
 use Rattle.table.proofs.reserved_with.Goals as goal
 
 pub returns-then-is_reserved : goal.returns-then-is_reserved

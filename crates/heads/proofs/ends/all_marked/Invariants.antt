@@ -1,11 +1,8 @@
 -- `ends::all_marked` meets its contract. The loop's invariant: `all` says whether each node passed is marked. Assumes nothing.
 use Prim.Native.Nat.{◌≤◌, ◌-◌}
-use mathlib.Core.Path.{◌≡◌, refl, sym}
-use native.Mathlib.Omega.{arith}
-use borrow.Author.Rules.{rules}
+use mathlib.Core.Path.{◌≡◌}
 use Rattle.paper.specs.Sets.{all_below}
 use Rattle.memory.specs.Ends.{marks}
-use Rattle.memory.proofs.EndLaws.{all_next}
 use Rattle.heads.proofs.ends.all_marked.Given as goal
 
 abbrev pub invariant-loop-i : goal.invariant-loop-i

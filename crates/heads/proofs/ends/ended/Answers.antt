@@ -1,7 +1,6 @@
 -- `ends::ended` meets its contract: its test is the definition's, and `rooted` says the rest. Assumes nothing.
 use Rattle.paper.specs.Record.{two_bytes}
 use Rattle.memory.specs.Ends.{ended_in}
-use borrow.Author.Rules.{rules}
 use Rattle.heads.proofs.ends.ended.Goals as goal
 
 pub returns-then-long-nodes : goal.returns-then-long-nodes

@@ -1,7 +1,6 @@
 -- `ends::rooted` meets its contract: each return has the tests that led to it. Assumes nothing.
 use borrow.Author.Tests.{eq-eqb, ne_eqb}
 use Rattle.memory.specs.Ends.{rooted_in}
-use borrow.Author.Rules.{rules}
 use Rattle.heads.proofs.ends.rooted.Goals as goal
 
 pub returns-then-nodes-eq0 : goal.returns-then-nodes-eq0

@@ -4,8 +4,7 @@ use mathlib.Core.Bool.{Bool, true, false, ◌||◌}
 use Prim.Native.Nat.{ℕ, ◌<◌, ◌≤◌}
 use native.Mathlib.Omega.{arith}
 use lib.Dec.{leb}
-use borrow.Author.Tests.{le-leb, lt-leb, leb-false, eq-eqb, ne_eqb, not-true, not-false}
-use borrow.Author.Rules.{rules}
+use borrow.Author.Tests.{le-leb, lt-leb, leb-false, eq-eqb, ne_eqb}
 use Rattle.memory.specs.Heads.{head_by, order_by, full_by}
 use Rattle.heads.proofs.heads.any_head.Goals as goal
 use Rattle.heads.proofs.heads.any_head.Goals.{Else-full}

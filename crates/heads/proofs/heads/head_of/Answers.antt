@@ -1,11 +1,10 @@
 -- `heads::head_of` tells a node that may stand by one test, and asks for any other. Assumes nothing.
-use mathlib.Core.Path.{◌≡◌, sym, ◌∙◌}
+use mathlib.Core.Path.{◌≡◌}
 use mathlib.Core.Bool.{Bool, true, ◌&&◌}
 use Prim.Native.Nat.{ℕ, ◌<◌, ◌≤◌}
 use native.Mathlib.Omega.{arith}
 use lib.Dec.{eqb, ltb, leb}
 use borrow.Author.Tests.{le-leb, lt-leb, eqb-true, ltb-true, leb-true}
-use borrow.Author.Rules.{rules}
 use Rattle.memory.specs.declared.Row.{Row}
 use Rattle.memory.specs.declared.Head.TheVariants.{Node}
 use Rattle.memory.specs.Heads.{head_by, order_by, full_by, Headed}

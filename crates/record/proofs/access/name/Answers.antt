@@ -4,7 +4,6 @@ use lib.ListN.{take}
 use lib.Seq.{drop-length}
 use Rattle.paper.specs.TheList.{trimmed}
 use Rattle.record.proofs.StoredLaws.{name_refused, name_unknown, name_known}
-use borrow.Author.Rules.{rules}
 use Rattle.record.proofs.access.name.Goals as goal
 
 pub returns-in_default : goal.returns-in_default
