@@ -1,5 +1,6 @@
 // What each question answers to bytes that the reader accepted: from here on the nodes are columns.
 #![tactic(auto)]
+
 ghost use Rattle.std.specs.Prelude.{◌≡◌, length, ◌+◌, ◌*◌, ◌-◌, ◌<◌, ◌≤◌};
 ghost use Rattle.paper.specs.Record.{node_no};
 ghost use Rattle.paper.specs.TurnedAway.{read};

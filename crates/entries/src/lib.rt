@@ -1,5 +1,6 @@
 // The rows, and over them one part of the list.
 #![tactic(auto)]
+
 ghost use Rattle.std.specs.Prelude.{◌<◌, length};
 ghost use Rattle.trees.specs.Trees.{condition_of};
 ghost use Rattle.writes.specs.Written.{Room, Wrote};

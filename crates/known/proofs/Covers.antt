@@ -6,7 +6,7 @@ use Prim.Native.Nat.{ℕ, ◌<◌}
 use borrow.Author.Tests.{eqb-true, eq-eqb}
 use Rattle.paper.specs.declared.Slot.{Slot}
 use Rattle.paper.specs.declared.Slot.TheVariants as slot
-use Rattle.paper.specs.Sets.{Set, none, only, ◌∪◌, ◌∖◌, outside, all_below, members}
+use Rattle.paper.specs.Sets.{Set, none, only, ◌∪◌, ◌∖◌, outside, members}
 use Rattle.paper.specs.Tree.{Binders}
 use Rattle.paper.specs.Tree.Binders.{no_binder, binder}
 use Rattle.paper.specs.FreeAndRestricted.{named, binder_names}

@@ -7,7 +7,7 @@ use Rattle.paper.specs.declared.Node.{Node}
 use Rattle.paper.specs.declared.Node.TheVariants as node
 use Rattle.paper.specs.declared.Equality.{Equality}
 use Rattle.paper.specs.Sets.{Set, none, ◌∪◌, outside}
-use Rattle.paper.specs.Record.{pick, condition, term, arguments, items, binders}
+use Rattle.paper.specs.Record.{pick, condition, term, arguments, items}
 use Rattle.paper.specs.Shape.{references}
 use Rattle.paper.specs.Tree as tree
 use Rattle.paper.specs.Tree.{Arguments, Items, Tree, as_condition, as_term, as_arguments, as_items, as_binders, planted}

@@ -8,7 +8,7 @@ use lib.Dec.{eqb}
 use lib.ListN.{length, length-set}
 use lib.Seq.{get_or-set_same, get_or-set_other}
 use borrow.Author.Tests.{eqb-true, eqb-false}
-use Rattle.paper.specs.Record.{Sort, condition, term}
+use Rattle.paper.specs.Record.{condition, term}
 use Rattle.paper.specs.Tree.{Tree}
 use Rattle.record.specs.Stored.{held, Has, Formed}
 use Rattle.trees.specs.Trees.{tree_of, condition_of, term_of, is_condition, is_term}

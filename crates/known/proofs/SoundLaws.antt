@@ -10,7 +10,7 @@ use Rattle.paper.specs.declared.Finding.{Finding}
 use Rattle.paper.specs.declared.Slot.{Slot}
 use Rattle.paper.specs.declared.Slot.TheVariants as slot
 use Rattle.paper.specs.Record.{pick}
-use Rattle.paper.specs.Sets.{Set, none, only, ◌∪◌, ◌∩◌, ◌∖◌, outside, members}
+use Rattle.paper.specs.Sets.{Set, none, only, ◌∪◌, ◌∩◌, ◌∖◌, outside}
 use Rattle.paper.specs.Tree.{Condition, Term, Arguments, Items, Binders, Tree, as_condition, as_term}
 use Rattle.paper.specs.Tree.Condition.{And, Or, Not, Past, Since, Exists, Comparison, Predicate, Refine, Tp, Opaque}
 use Rattle.paper.specs.Tree.Term.{Var, Wildcard, Value, Sigil, Array, Arith, Sum, Count, AggregateCall}
@@ -18,7 +18,7 @@ use Rattle.paper.specs.Tree.Arguments.{no_argument, argument}
 use Rattle.paper.specs.Tree.Items.{no_item, item}
 use Rattle.paper.specs.Tree.Binders.{no_binder, binder}
 use Rattle.paper.specs.FreeAndRestricted.{named, is_sigil, binder_names, free, term_free, restricted, holds_sigil}
-use Rattle.paper.specs.Places.{condition, operand, searched, searched_arguments, searched_items, Spot, Place, asked_at, Broken, for_names, at_cells, gather, at_cell, findings, found}
+use Rattle.paper.specs.Places.{condition, operand, searched, searched_arguments, searched_items, Spot, Place, asked_at, for_names, at_cells, gather, at_cell, findings, found}
 use Rattle.paper.specs.Scoping.{binder_sigil, cell_of, cells, scope_below, scope_broken, aggregate_rules}
 use Rattle.paper.proofs.SetLaws.{members_none}
 use Rattle.paper.proofs.Walks.{found_at}

@@ -1,5 +1,6 @@
 // What is known of a node: the facts that walks ask of it again and again, and the parts that they follow from.
 #![tactic(auto)]
+
 use names::Names;
 use paper::NodeNo;
 

@@ -1,6 +1,7 @@
 // A node of a record by its number: what it is, and what it ties if it is an equality. As the name lookup does, each function reads the record again, which takes
 // microseconds, so that nobody has to carry where its nodes lie.
 #![tactic(auto)]
+
 ghost use Rattle.std.specs.Prelude.{◌≡◌, length, get_or};
 ghost use Rattle.paper.specs.declared.Node.TheVariants.{ListEnd};
 ghost use Rattle.paper.specs.Tree.{as_condition, tree_at};

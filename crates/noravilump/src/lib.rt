@@ -1,5 +1,6 @@
 // The C face: the questions, the list and the name lookup for a program in another language, in document 01's numbers. include/noravilump.h says the same in C.
 #![tactic(auto)]
+
 ghost use Rattle.std.specs.Prelude.{◌≡◌, length, take, drop};
 ghost use Rattle.paper.specs.Questions.{answer_numbers, arithmetic_numbers, listing_numbers, scoping, closedness, demands, arithmetic, list, list_buffer, name, name_stretch};
 ghost use Rattle.names.specs.Words.{mem};

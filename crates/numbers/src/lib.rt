@@ -1,5 +1,6 @@
 // An answer in document 01's numbers.
 #![tactic(auto)]
+
 ghost use Rattle.std.specs.Prelude.{◌≡◌, ◌<◌};
 ghost use Rattle.paper.specs.Questions.{answer_numbers, arithmetic_numbers, listing_numbers};
 ghost use Rattle.numbers.specs.Numbers.{asked};

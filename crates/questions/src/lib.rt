@@ -1,5 +1,6 @@
 // The public questions. Any bytes may be asked about.
 #![tactic(auto)]
+
 ghost use Rattle.std.specs.Prelude.{◌≡◌, length};
 ghost use Rattle.paper.specs.Questions.{scoping as scoping_answer, closedness as closedness_answer, demands as demands_answer, arithmetic as arithmetic_answer, list as list_answer, list_buffer};
 ghost use Rattle.names.specs.Words.{mem};

@@ -3,7 +3,6 @@ use mathlib.Core.Path.{◌≡◌, refl, sym, ap, ◌∙◌, subst}
 use mathlib.Core.Bool.{true, false, ◌||◌}
 use mathlib.Core.List.{List, [], ◌∷◌}
 use Prim.Native.Nat.{ℕ, ◌<◌}
-use native.Mathlib.Omega.{arith}
 use lib.ListN.{get_or}
 use types.Run.{OneOf, miss}
 use denote.Enum.Declared.{tag_of}
@@ -20,7 +19,6 @@ use Rattle.paper.specs.declared.Node.TheVariants as node
 use Rattle.paper.specs.Record.{pick, node_no}
 use Rattle.paper.specs.Shape.{names_in}
 use Rattle.paper.specs.Tree.{Term, Tree, as_term, planted}
-use Rattle.paper.specs.Tree.Term.{Var, Wildcard, Arith}
 use Rattle.paper.specs.FreeAndRestricted.{has_wildcard, items_wildcard, bare, unless, by_bare, equality}
 use Rattle.paper.proofs.Walks.{All}
 use Rattle.paper.proofs.Equalities.{no_name, Means, means}

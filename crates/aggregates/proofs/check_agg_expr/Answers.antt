@@ -44,7 +44,7 @@ pub slot_name-summed-requires : goal.slot_name-summed-requires
 slot_name-summed-requires c = slot_tabled c.in-Sum.slot (here (goal.at.slot_name-summed-requires c).After-node_at-node c.in-Sum.is).tabled
 
 pub check_aggregation-requires : goal.check_aggregation-requires
-check_aggregation-requires c = let a = here (goal.at.check_aggregation-requires c).After-node_at-node c.in-Sum.is in  record { has = (a.children.0.has, a.children.1.0.has.1, c.requires.has.1, a_body _ a.children.1.0.fits); room = room_is (ap all (five_sum _ _ c.slot_name-summed.ensures a)) c.requires.room }
+check_aggregation-requires c = let a = here (goal.at.check_aggregation-requires c).After-node_at-node c.in-Sum.is in record { has = (a.children.0.has, a.children.1.0.has.1, c.requires.has.1, a_body _ a.children.1.0.fits); room = room_is (ap all (five_sum _ _ c.slot_name-summed.ensures a)) c.requires.room }
 
 pub check_aggregation-requires-in-Count : goal.check_aggregation-requires-in-Count
-check_aggregation-requires-in-Count c = let a = here (goal.at.check_aggregation-requires-in-Count c).After-node_at-node c.in-Count.is in  record { has = (a.children.0.has, a.children.1.0.has.1, c.requires.has.1, a_body _ a.children.1.0.fits); room = room_is (ap all (five_count _ _ c.empty-summed.ensures a)) c.requires.room }
+check_aggregation-requires-in-Count c = let a = here (goal.at.check_aggregation-requires-in-Count c).After-node_at-node c.in-Count.is in record { has = (a.children.0.has, a.children.1.0.has.1, c.requires.has.1, a_body _ a.children.1.0.fits); room = room_is (ap all (five_count _ _ c.empty-summed.ensures a)) c.requires.room }

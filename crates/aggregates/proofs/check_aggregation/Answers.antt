@@ -55,58 +55,64 @@ emit-b-requires c = room_first _ _ (room_rest _ _ c.emit_cells-a.ensures (omega 
 
 pub emit-c-requires : goal.emit-c-requires
 emit-c-requires c = room_first _ _ (room_rest _ _ c.emit-b.ensures (omega (
-      arith,
-      c.emit-b.ensures.total,
-      c.emit_cells-a.ensures.total,
-    )) (room_rest _ _ c.emit_cells-a.ensures (omega (
-      arith,
-      c.emit-b.ensures.total,
-      c.emit_cells-a.ensures.total,
-    )) (room_is (five-here (goal.at.emit-c-requires c).After-minus-untied) c.requires.room)))
+  arith,
+  c.emit-b.ensures.total,
+  c.emit_cells-a.ensures.total,
+)) (room_rest _ _ c.emit_cells-a.ensures (omega (
+  arith,
+  c.emit-b.ensures.total,
+  c.emit_cells-a.ensures.total,
+)) (room_is (five-here (goal.at.emit-c-requires c).After-minus-untied) c.requires.room)))
 
 pub emit_cells-d-requires : goal.emit_cells-d-requires
-emit_cells-d-requires c = record { has = c.requires.has.0; room = room_first _ _ (room_rest _ _ c.emit-c.ensures (omega (
+emit_cells-d-requires c = record {
+  has = c.requires.has.0;
+  room = room_first _ _ (room_rest _ _ c.emit-c.ensures (omega (
+    arith,
+    c.emit-c.ensures.total,
+    c.emit-b.ensures.total,
+    c.emit_cells-a.ensures.total,
+  )) (room_rest _ _ c.emit-b.ensures
+      (omega (
         arith,
-        c.emit-c.ensures.total,
-        c.emit-b.ensures.total,
-        c.emit_cells-a.ensures.total,
-      )) (room_rest _ _ c.emit-b.ensures
-          (omega (
-            arith,
-            c.emit-c.ensures.total,
-            c.emit-b.ensures.total,
-            c.emit_cells-a.ensures.total,
-          )) (room_rest _ _ c.emit_cells-a.ensures (omega (
-            arith,
-            c.emit-c.ensures.total,
-            c.emit-b.ensures.total,
-            c.emit_cells-a.ensures.total,
-          )) (room_is (five-here (goal.at.emit_cells-d-requires c).After-minus-untied)
-          c.requires.room)))) }
-
-pub emit_cells-requires : goal.emit_cells-requires
-emit_cells-requires c = record { has = c.requires.has.0; room = room_rest _ _ c.emit_cells-d.ensures (omega (
-        arith,
-        c.emit_cells-d.ensures.total,
-        c.emit-c.ensures.total,
-        c.emit-b.ensures.total,
-        c.emit_cells-a.ensures.total,
-      )) (room_rest _ _ c.emit-c.ensures (omega (
-        arith,
-        c.emit_cells-d.ensures.total,
-        c.emit-c.ensures.total,
-        c.emit-b.ensures.total,
-        c.emit_cells-a.ensures.total,
-      )) (room_rest _ _ c.emit-b.ensures (omega (
-        arith,
-        c.emit_cells-d.ensures.total,
         c.emit-c.ensures.total,
         c.emit-b.ensures.total,
         c.emit_cells-a.ensures.total,
       )) (room_rest _ _ c.emit_cells-a.ensures (omega (
         arith,
-        c.emit_cells-d.ensures.total,
         c.emit-c.ensures.total,
         c.emit-b.ensures.total,
         c.emit_cells-a.ensures.total,
-      )) (room_is (five-here (goal.at.emit_cells-requires c).After-minus-untied) c.requires.room)))) }
+      )) (room_is (five-here (goal.at.emit_cells-d-requires c).After-minus-untied)
+      c.requires.room))));
+}
+
+pub emit_cells-requires : goal.emit_cells-requires
+emit_cells-requires c = record {
+  has = c.requires.has.0;
+  room = room_rest _ _ c.emit_cells-d.ensures (omega (
+    arith,
+    c.emit_cells-d.ensures.total,
+    c.emit-c.ensures.total,
+    c.emit-b.ensures.total,
+    c.emit_cells-a.ensures.total,
+  )) (room_rest _ _ c.emit-c.ensures (omega (
+    arith,
+    c.emit_cells-d.ensures.total,
+    c.emit-c.ensures.total,
+    c.emit-b.ensures.total,
+    c.emit_cells-a.ensures.total,
+  )) (room_rest _ _ c.emit-b.ensures (omega (
+    arith,
+    c.emit_cells-d.ensures.total,
+    c.emit-c.ensures.total,
+    c.emit-b.ensures.total,
+    c.emit_cells-a.ensures.total,
+  )) (room_rest _ _ c.emit_cells-a.ensures (omega (
+    arith,
+    c.emit_cells-d.ensures.total,
+    c.emit-c.ensures.total,
+    c.emit-b.ensures.total,
+    c.emit_cells-a.ensures.total,
+  )) (room_is (five-here (goal.at.emit_cells-requires c).After-minus-untied) c.requires.room))));
+}

@@ -14,8 +14,11 @@ returns c =
     c.check_chain.ensures
 
 pub check_chain-requires : goal.check_chain-requires
-check_chain-requires c = record { has = c.requires.has; room = room_is (demands_are _ c.empty-tied.ensures (sym c.body_has_sigil.ensures ∙ c.if-body_has_sigil.false))
-          c.requires.room }
+check_chain-requires c = record {
+  has = c.requires.has;
+  room = room_is (demands_are _ c.empty-tied.ensures (sym c.body_has_sigil.ensures ∙ c.if-body_has_sigil.false))
+      c.requires.room;
+}
 
 pub body_has_sigil-requires : goal.body_has_sigil-requires
 body_has_sigil-requires c = let s = c.requires.has in (s.0.1, s.1, s.2)

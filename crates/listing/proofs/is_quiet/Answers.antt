@@ -14,11 +14,10 @@ use Rattle.listing.proofs.is_quiet.Goals as goal
 
 pub returns-in-Scoping : goal.returns-in-Scoping
 unfolding quiet has_none
-returns-in-Scoping c =
-    (
-      c.is_sound.ensures ∙ sym (ap (λ (k : Check). quiet k (tree_of c.args.columns.now c.args.i.0)) c.in-Scoping.is),
-      (λ e. part_scoping _ _ c.in-Scoping.is ∙ quiet_scoping _ c.args.i c.requires.2 _ _ (λ k z. empty_everywhere _ (search rules) z k) (sym c.is_sound.ensures ∙ e)),
-    )
+returns-in-Scoping c = (
+  c.is_sound.ensures ∙ sym (ap (λ (k : Check). quiet k (tree_of c.args.columns.now c.args.i.0)) c.in-Scoping.is),
+  (λ e. part_scoping _ _ c.in-Scoping.is ∙ quiet_scoping _ c.args.i c.requires.2 _ _ (λ k z. empty_everywhere _ (search rules) z k) (sym c.is_sound.ensures ∙ e)),
+)
 
 pub returns-in-Closedness : goal.returns-in-Closedness
 unfolding quiet has_none

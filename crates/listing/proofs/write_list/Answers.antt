@@ -16,13 +16,16 @@ pub check_leaf_closed-q-requires : goal.check_leaf_closed-q-requires
 check_leaf_closed-q-requires c = record { i_in_bounds = (let s = c.requires.has in (s.0.1, s.1, s.2)); room = room_first _ _ (room_rest _ _ c.check_condition-p.ensures (omega (arith, c.check_condition-p.ensures.total)) (room_is (listed_are _ _ _ c.empty-scope.ensures) c.requires.room)) }
 
 pub check_demands-requires : goal.check_demands-requires
-check_demands-requires c = record { has = c.requires.has; room = room_rest _ _ c.check_leaf_closed-q.ensures (omega (
-        arith,
-        c.check_leaf_closed-q.ensures.total,
-        c.check_condition-p.ensures.total,
-      )) (room_rest _ _ c.check_condition-p.ensures (omega (
-        arith,
-        c.check_leaf_closed-q.ensures.total,
-        c.check_condition-p.ensures.total,
-      ))
-          (room_is (listed_are _ _ _ c.empty-scope.ensures) c.requires.room)) }
+check_demands-requires c = record {
+  has = c.requires.has;
+  room = room_rest _ _ c.check_leaf_closed-q.ensures (omega (
+    arith,
+    c.check_leaf_closed-q.ensures.total,
+    c.check_condition-p.ensures.total,
+  )) (room_rest _ _ c.check_condition-p.ensures (omega (
+    arith,
+    c.check_leaf_closed-q.ensures.total,
+    c.check_condition-p.ensures.total,
+  ))
+      (room_is (listed_are _ _ _ c.empty-scope.ensures) c.requires.room));
+}

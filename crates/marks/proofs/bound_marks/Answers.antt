@@ -1,5 +1,4 @@
 -- `bound_marks` adds the marks of an exists. Assumes nothing.
-use borrow.Author.Rules.{rules}
 use Rattle.names.specs.Words.{bit}
 use Rattle.known.proofs.MarkLaws.{bound_marked}
 use Rattle.marks.proofs.bound_marks.Goals as goal

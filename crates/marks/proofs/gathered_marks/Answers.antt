@@ -1,5 +1,4 @@
 -- `gathered_marks` has the marks of an aggregate that is skipped, and of one that is entered. Assumes nothing.
-use borrow.Author.Rules.{rules}
 use Rattle.known.proofs.MarkLaws.{skipped_marked, entered_marked}
 use Rattle.marks.proofs.gathered_marks.Goals as goal
 

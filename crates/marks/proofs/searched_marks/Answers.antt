@@ -1,5 +1,4 @@
 -- `searched_marks` keeps sigils, and what is computed is broken. Assumes nothing.
-use borrow.Author.Rules.{rules}
 use Rattle.names.specs.Words.{bit}
 use Rattle.known.proofs.MarkLaws.{searched_marked}
 use Rattle.marks.proofs.searched_marks.Goals as goal

@@ -1,6 +1,5 @@
 -- `is_sigil` says whether a slot is a sigil.
 use mathlib.Core.Path.{sym, ap}
-use borrow.Author.Rules.{rules}
 use borrow.Enum.Refused.{opened}
 use Rattle.paper.specs.FreeAndRestricted.{is_sigil}
 use Rattle.slots.proofs.SlotLaws.{sigil_slot}

@@ -1,6 +1,5 @@
 -- `with_binders` joins them to the names of the binders.
 use mathlib.Core.Path.{refl, ap₂, ◌∙◌}
-use borrow.Author.Rules.{rules}
 use Rattle.paper.specs.Sets.{◌∪◌}
 use Rattle.slots.proofs.with_binders.Goals as goal
 

@@ -1,6 +1,5 @@
 -- `with_slot` joins them to the name of the slot.
 use mathlib.Core.Path.{refl, ap₂, ◌∙◌}
-use borrow.Author.Rules.{rules}
 use Rattle.paper.specs.Sets.{◌∪◌}
 use Rattle.slots.proofs.with_slot.Goals as goal
 

@@ -1,6 +1,5 @@
 -- `without_binders` takes the names of the binders away.
 use mathlib.Core.Path.{refl, ap₂, ◌∙◌}
-use borrow.Author.Rules.{rules}
 use Rattle.paper.specs.Sets.{◌∖◌}
 use Rattle.slots.proofs.without_binders.Goals as goal
 

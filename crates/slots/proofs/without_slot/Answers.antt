@@ -1,6 +1,5 @@
 -- `without_slot` takes the name of the slot away.
 use mathlib.Core.Path.{refl, ap₂, ◌∙◌}
-use borrow.Author.Rules.{rules}
 use Rattle.paper.specs.Sets.{◌∖◌}
 use Rattle.slots.proofs.without_slot.Goals as goal
 

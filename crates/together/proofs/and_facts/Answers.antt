@@ -1,6 +1,5 @@
 -- `and_facts` eases the right by what the left restricts. Assumes nothing.
 use mathlib.Core.Path.{◌∙◌}
-use borrow.Author.Rules.{rules}
 use Rattle.known.specs.Known.{and_known}
 use Rattle.known.specs.Rows.{meant}
 use Rattle.together.proofs.and_facts.Goals as goal

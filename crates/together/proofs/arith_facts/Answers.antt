@@ -1,7 +1,6 @@
 -- `arith_facts` restricts nothing and is computed. Assumes nothing.
 use mathlib.Core.Path.{refl, ◌∙◌}
 use lib.Bits.{bit_or}
-use borrow.Author.Rules.{rules}
 use Rattle.names.specs.Words.{bit}
 use Rattle.names.proofs.Bits.{bit_of_or}
 use Rattle.known.proofs.MarkLaws.{kept, added}

@@ -1,5 +1,4 @@
 -- `both` joins the free names and the marks. Assumes nothing.
-use borrow.Author.Rules.{rules}
 use Rattle.names.proofs.Bits.{bit_of_or}
 use Rattle.known.specs.Known.{both}
 use Rattle.known.specs.Rows.{meant}

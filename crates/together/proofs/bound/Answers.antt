@@ -1,6 +1,5 @@
 -- `bound` takes the slot's name out, and asks whether the body needs and restricts it. Assumes nothing.
 use mathlib.Core.Path.{subst}
-use borrow.Author.Rules.{rules}
 use Rattle.paper.specs.Sets.{Set, outside}
 use Rattle.names.specs.Words.{mem}
 use Rattle.names.specs.Apart.{Apart}

@@ -1,6 +1,5 @@
 -- `join_facts` joins everything. Assumes nothing.
 use mathlib.Core.Path.{◌∙◌}
-use borrow.Author.Rules.{rules}
 use Rattle.known.specs.Known.{join}
 use Rattle.known.specs.Rows.{meant}
 use Rattle.together.proofs.join_facts.Goals as goal

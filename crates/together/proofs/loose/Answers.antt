@@ -1,5 +1,4 @@
 -- `loose` restricts nothing and owes what is free. Assumes nothing.
-use borrow.Author.Rules.{rules}
 use Rattle.known.specs.Known.{loose}
 use Rattle.known.specs.Rows.{meant}
 use Rattle.together.proofs.loose.Goals as goal

@@ -1,5 +1,4 @@
 -- `naming` has the names twice. Assumes nothing.
-use borrow.Author.Rules.{rules}
 use Rattle.names.specs.Words.{bit}
 use Rattle.known.specs.Known.{naming}
 use Rattle.known.specs.Rows.{meant}

@@ -1,5 +1,4 @@
 -- `nothing` has no names and no marks. Assumes nothing.
-use borrow.Author.Rules.{rules}
 use Rattle.names.specs.Words.{bit}
 use Rattle.known.specs.Known.{nothing}
 use Rattle.known.specs.Rows.{meant}

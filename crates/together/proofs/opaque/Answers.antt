@@ -1,5 +1,4 @@
 -- `opaque` holds a sigil and nothing else. Assumes nothing.
-use borrow.Author.Rules.{rules}
 use Rattle.names.specs.Words.{bit}
 use Rattle.known.specs.Known.{opaque}
 use Rattle.known.specs.Rows.{meant}

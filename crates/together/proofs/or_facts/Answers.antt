@@ -1,6 +1,5 @@
 -- `or_facts` restricts nothing. Assumes nothing.
 use mathlib.Core.Path.{◌∙◌}
-use borrow.Author.Rules.{rules}
 use Rattle.known.specs.Known.{or_known}
 use Rattle.known.specs.Rows.{meant}
 use Rattle.together.proofs.or_facts.Goals as goal

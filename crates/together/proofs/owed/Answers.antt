@@ -1,7 +1,6 @@
 -- `owed` is the definition, side by side. Assumes nothing.
 use mathlib.Core.Path.{◌∙◌}
 use Rattle.known.specs.Needs.{owes}
-use borrow.Author.Rules.{rules}
 use Rattle.together.proofs.owed.Goals as goal
 
 pub returns-in-Left : goal.returns-in-Left

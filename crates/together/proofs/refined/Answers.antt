@@ -2,7 +2,6 @@
 use mathlib.Core.Path.{refl, ap, ◌∙◌}
 use mathlib.Core.Bool.{◌||◌}
 use lib.Bits.{bit_and}
-use borrow.Author.Rules.{rules}
 use Rattle.names.specs.Words.{bit}
 use Rattle.names.proofs.Bits.{bit_of_or}
 use Rattle.known.proofs.MarkLaws.{kept, masked, cleared}

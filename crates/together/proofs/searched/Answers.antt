@@ -1,5 +1,4 @@
 -- `searched` keeps the free names, and what is computed is broken. Assumes nothing.
-use borrow.Author.Rules.{rules}
 use Rattle.known.specs.Known.{searched}
 use Rattle.known.specs.Rows.{meant}
 use Rattle.together.proofs.searched.Goals as goal

@@ -1,6 +1,5 @@
 -- `since_facts` eases the left by what the right restricts. Assumes nothing.
 use mathlib.Core.Path.{◌∙◌}
-use borrow.Author.Rules.{rules}
 use Rattle.known.specs.Known.{since_known}
 use Rattle.known.specs.Rows.{meant}
 use Rattle.together.proofs.since_facts.Goals as goal

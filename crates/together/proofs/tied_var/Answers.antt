@@ -2,7 +2,6 @@
 use mathlib.Core.Path.{◌∙◌, subst}
 use Rattle.paper.specs.FreeAndRestricted.{tied_name}
 use Rattle.trees.specs.Terms.{TabledTied}
-use borrow.Author.Rules.{rules}
 use Rattle.together.proofs.tied_var.Goals as goal
 
 pub single-requires : goal.single-requires

@@ -1,6 +1,5 @@
 -- `timed` has the names twice, and may be a sigil. Assumes nothing.
 use mathlib.Core.Path.{refl}
-use borrow.Author.Rules.{rules}
 use Rattle.names.specs.Words.{bit}
 use Rattle.known.proofs.MarkLaws.{maybe_kept, maybe_added}
 use Rattle.known.specs.Known.{naming}

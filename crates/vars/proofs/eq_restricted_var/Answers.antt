@@ -1,6 +1,5 @@
 -- `eq_restricted_var` says what an equality ties, or why nothing. The needs are in the order of the code.
 use mathlib.Core.Path.{sym, ◌∙◌}
-use borrow.Author.Rules.{rules}
 use Rattle.paper.specs.FreeAndRestricted.{by_bare}
 use Rattle.vars.proofs.EqualityLaws.{by_sides}
 use Rattle.vars.proofs.eq_restricted_var.Goals as goal

@@ -1,4 +1,3 @@
-
 use mathlib.Core.Path.{ap}
 use borrow.Author.Rules.{rules}
 use borrow.Author.Tests.{eq-eqb, ne_eqb}

@@ -1,4 +1,3 @@
-
 use borrow.Author.Rules.{rules}
 use Rattle.paper.specs.TheList.{name_or_255}
 use Rattle.writes.proofs.name_or_255.Goals as goal

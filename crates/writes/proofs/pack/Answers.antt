@@ -1,4 +1,3 @@
-
 use borrow.Author.Rules.{rules}
 use Rattle.paper.specs.TheList.{pack}
 use Rattle.writes.proofs.pack.Goals as goal

@@ -12,8 +12,8 @@ use Rattle.writes.proofs.put.Goals.{Joined-at-out, then-at-out, else-at-out}
 after : (c : Joined-at-out) → c.if-at-out.out ≡ set c.args.out.now c.args.at (pack c.args.f)
 after c =
     elim c.if-at-out.branch [
-      then-at-out w ↦ w.out-is ∙ ap (set c.args.out.now c.args.at) w.pack.ensures
-    | else-at-out w ↦ w.out-is ∙ sym (set_out _ _ _ w.if-at-out.false)
+      | then-at-out w ↦ w.out-is ∙ ap (set c.args.out.now c.args.at) w.pack.ensures
+      | else-at-out w ↦ w.out-is ∙ sym (set_out _ _ _ w.if-at-out.false)
     ]
 
 pub shape_of-out : goal.shape_of-out

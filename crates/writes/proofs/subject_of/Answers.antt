@@ -1,4 +1,3 @@
-
 use borrow.Author.Tests.{eq-eqb, ne_eqb}
 use Rattle.paper.specs.TheList.{subject_of}
 use Rattle.writes.proofs.subject_of.Goals as goal

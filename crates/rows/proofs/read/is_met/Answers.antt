@@ -2,7 +2,6 @@
 use mathlib.Core.Path.{ap, ◌∙◌}
 use mathlib.Core.Bool.{Bool, not, ◌&&◌}
 use native.Mathlib.Omega.{arith}
-use Rattle.paper.specs.Sets.{Set}
 use Rattle.names.specs.Words.{bit, mem}
 use Rattle.known.specs.Needs.{has_none, met}
 use Rattle.known.specs.Known.{Known}

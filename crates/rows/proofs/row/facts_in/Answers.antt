@@ -1,6 +1,5 @@
 -- `facts_in` takes a row apart.
 use mathlib.Core.Path.{refl}
-use borrow.Author.Rules.{rules}
 use Rattle.known.specs.Rows.{facts_in}
 use Rattle.rows.proofs.row.facts_in.Goals as goal
 
