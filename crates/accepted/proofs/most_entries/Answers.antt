@@ -3,18 +3,13 @@ use Prim.Native.Nat.{ℕ, ◌+◌, ◌*◌, ◌≤◌}
 use native.Mathlib.Omega.{arith}
 use native.Mathlib.Nat.{le_trans, mul-le-mul_left, mul-le-mul_right}
 use borrow.Author.Rules.{rules}
-use Rattle.accepted.proofs.most_entries.Statement.{statement}
-use Rattle.accepted.proofs.most_entries.Tie as tie
+use Rattle.accepted.proofs.most_entries.Goals as goal
 
 few : (names nodes : ℕ) → names ≤ 128 → nodes ≤ 512 → names * (nodes + 1) ≤ 128 * 513
 few names nodes n k = le_trans (mul-le-mul_right {m = names} {n = 128} (nodes + 1) n) (mul-le-mul_left {m = nodes + 1} {n = 513} 128 (omega (arith, k)))
 
-pub most-entries-spec : {M : Type 1} → statement M
-most-entries-spec =
-    tie.close
-    (tie.spec
-    (λ c. search rules)
-    (λ c. search rules)
-    (λ c. let f = few c.args.names c.args.nodes c.requires.0 c.requires.1 in record { fits = omega arith })
-    (λ c. let f = few c.args.names c.args.nodes c.requires.0 c.requires.1 in let k = c.requires.1 in record { fits = omega arith })
-    (λ c. search rules))
+pub overflow_mul-result-2 : goal.overflow_mul-result-2
+overflow_mul-result-2 c = let f = few c.args.names c.args.nodes c.requires.0 c.requires.1 in record { fits = omega arith }
+
+pub overflow_add-result-2 : goal.overflow_add-result-2
+overflow_add-result-2 c = let f = few c.args.names c.args.nodes c.requires.0 c.requires.1 in let k = c.requires.1 in record { fits = omega arith }

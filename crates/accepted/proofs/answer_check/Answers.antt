@@ -1,0 +1,18 @@
+-- `answer_check` answers with the first entry of the part that the check asks for, for all accepted bytes.
+use mathlib.Core.Path.{refl, ◌∙◌}
+use borrow.Author.Rules.{rules}
+use Rattle.accepted.proofs.AtRoot.{some_root, last_root, part_room, part_told}
+use Rattle.accepted.proofs.answer_check.Goals as goal
+
+pub part_entries-count-requires : goal.part_entries-count-requires
+part_entries-count-requires c = record { last = last_root _ _ c.requires.0 c.fill.ensures _ c.root.ensures; room = part_room _ _ c.requires.0 c.fill.ensures _ c.root.ensures _ c.requires.1 }
+
+pub returns : goal.returns
+returns c =
+    c.first.ensures ∙ part_told _ _ c.requires.0 c.fill.ensures _ c.root.ensures _ c.requires.1 c.part_entries-count.ensures
+
+pub fill-requires : goal.fill-requires
+fill-requires c = ((some_root _ _ c.requires.0).1, refl)
+
+pub root-requires : goal.root-requires
+root-requires c = some_root _ _ c.requires.0
