@@ -1,7 +1,7 @@
 /*
  * Noravilump: what is wrong with a record that carries a condition in time. docs/01-scope.md defines the record, the rules and the numbers.
  *
- * Link target/staticlib/libnoravilump.a, which `rt staticlib noravilump` writes, into a program for x86-64 Linux. The library is proved: for all bytes each
+ * Link crates/noravilump/out/libnoravilump.a, which `rt lib` writes in crates/noravilump, into a program for x86-64 Linux. The library is proved: for all bytes each
  * function answers what the definitions say, reads nothing but the record, writes nothing but the lent entries, and returns. What is proved of a
  * function stands in its contract, in crates/noravilump/src/lib.rt.
  *

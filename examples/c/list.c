@@ -4,8 +4,9 @@
  *
  * To build and run it, from the root of the repository:
  *
- *     rt staticlib noravilump
- *     gcc -std=c11 -Wall -Wextra -Werror -I include examples/c/list.c target/staticlib/libnoravilump.a -o target/list
+ *     (cd crates/noravilump && rt lib)
+ *     mkdir -p target
+ *     gcc -std=c11 -Wall -Wextra -Werror -I include examples/c/list.c crates/noravilump/out/libnoravilump.a -o target/list
  *     target/list FILE
  *
  * An entry is rule * 16777216 + node * 256 + name; include/noravilump.h says what each number means. The record is refused by

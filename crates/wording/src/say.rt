@@ -1,8 +1,13 @@
 // Text on a writer, as standard output.
+ghost use Rattle.std.specs.Prelude.{OnOk};
+ghost use Rattle.std.specs.Io.KnownBytes.{Appends};
+
 use std::io;
 use std::io::Write;
 
-pub fn text<W: Write>(out: &mut W, words: &[u8]) -> io::Result<()> {
+pub fn text<W: Write>(out: &mut W, words: &[u8]) -> io::Result<()>
+    ensures { OnOk result (Appends (W.contents out.old) (W.contents out.new) words.now) }
+{
     out.write_all(words)
 }
 

@@ -4,7 +4,7 @@
 //! To build and run it, from the root of the repository:
 //!
 //! ```text
-//! rt staticlib noravilump
+//! (cd crates/noravilump && rt lib)
 //! cargo run --release --offline --manifest-path examples/rust/Cargo.toml -- FILE
 //! ```
 //!

@@ -27,7 +27,7 @@ fn bytes_in_the_claim(label: &str) -> Vec<u8> {
 }
 
 fn definition(label: &str) -> &'static str {
-    let start = format!("\ncase-{label} =");
+    let start = format!("\ncase_{label} =");
     let (_, after) = CLAIM.split_once(&start).expect("the claim has every case");
     after.split("\n\n").next().unwrap()
 }

@@ -14,27 +14,22 @@ const NO_NAME: u8 = 255;
 
 const HEAD: &str = "\
 -- What the definitions say of each input, and what a plain second implementation says: the same, by computation.
-use Prim.Native.Nat.{ℕ, zero, suc}
-use mathlib.Core.Path.{_≡_, refl}
-use mathlib.Core.Bool.{Bool, false, _||_}
-use mathlib.Core.List.{List, [], _∷_, _++_, map}
-use lib.Dec.{eqb}
-use lib.ListN.{length}
-use Rattle·paper·specs.specs.declared.NodeNo.{NodeNo}
-use Rattle·paper·specs.specs.declared.Node.{Node}
-use Rattle·paper·specs.specs.declared.Verdict.{Verdict}
-use Rattle·paper·specs.specs.declared.Verdict.the-variants.{Counts, Refused}
-use Rattle·paper·specs.specs.declared.Reason.the-variants as reason
-use Rattle·paper·specs.specs.declared.Equality.{Equality}
-use Rattle·paper·specs.specs.declared.Equality.the-variants.{Left, Right, Nothing}
-use Rattle·paper·specs.specs.Record.{pick, node-no, name-no}
-use Rattle·paper·specs.specs.TurnedAway as reader
-use Rattle·paper·specs.specs.TurnedAway.{Outcome, read, verdict}
-use Rattle·paper·specs.specs.Tree.{Condition, as-condition, tree-at}
-use Rattle·paper·specs.specs.Tree.Condition.{And, Or, Not, Past, Since, Exists, Comparison, Predicate, Refine, Tp, Opaque}
-use Rattle·paper·specs.specs.FreeAndRestricted.{equality, is-equality}
-use Rattle·paper·specs.specs.Questions as questions
-use Rattle·paper·specs.specs.Questions.{Numbers, answer-numbers, arithmetic-numbers, listing-numbers}
+use Rattle.std.specs.Prelude.{ℕ, zero, suc, ◌≡◌, refl, Bool, false, ◌||◌, List, [], ◌∷◌, ◌++◌, map, eqb, length}
+use Rattle.paper.specs.declared.NodeNo.{NodeNo}
+use Rattle.paper.specs.declared.Node.{Node}
+use Rattle.paper.specs.declared.Verdict.{Verdict}
+use Rattle.paper.specs.declared.Verdict.TheVariants.{Counts, Refused}
+use Rattle.paper.specs.declared.Reason.TheVariants as reason
+use Rattle.paper.specs.declared.Equality.{Equality}
+use Rattle.paper.specs.declared.Equality.TheVariants.{Left, Right, Nothing}
+use Rattle.paper.specs.Record.{pick, node_no, name_no}
+use Rattle.paper.specs.TurnedAway as reader
+use Rattle.paper.specs.TurnedAway.{Outcome, read, verdict}
+use Rattle.paper.specs.Tree.{Condition, as_condition, tree_at}
+use Rattle.paper.specs.Tree.Condition.{And, Or, Not, Past, Since, Exists, Comparison, Predicate, Refine, Tp, Opaque}
+use Rattle.paper.specs.FreeAndRestricted.{equality, is_equality}
+use Rattle.paper.specs.Questions as questions
+use Rattle.paper.specs.Questions.{Numbers, answer_numbers, arithmetic_numbers, listing_numbers}
 ";
 
 const TOLD: &str = "
@@ -65,40 +60,40 @@ unfoldable pub among : List ℕ → ℕ → Bool
 among [] k = false
 among (x ∷ xs) k = eqb k x || among xs k
 
-unfoldable pub if-equality : Condition → List Tested
-if-equality (Comparison n o l r) = pick (is-equality o) (record { node = n; says = equality l r } ∷ []) []
-if-equality (And n l r) = []
-if-equality (Or n l r) = []
-if-equality (Not n b) = []
-if-equality (Past n k b w) = []
-if-equality (Since n l r w) = []
-if-equality (Exists n s y b) = []
-if-equality (Predicate n a l) = []
-if-equality (Refine n b l) = []
-if-equality (Tp n s) = []
-if-equality (Opaque n k y) = []
+unfoldable pub if_equality : Condition → List Tested
+if_equality (Comparison n o l r) = pick (is_equality o) (record { node = n; says = equality l r } ∷ []) []
+if_equality (And n l r) = []
+if_equality (Or n l r) = []
+if_equality (Not n b) = []
+if_equality (Past n k b w) = []
+if_equality (Since n l r w) = []
+if_equality (Exists n s y b) = []
+if_equality (Predicate n a l) = []
+if_equality (Refine n b l) = []
+if_equality (Tp n s) = []
+if_equality (Opaque n k y) = []
 
 -- among the first n nodes, ascending; what is no condition is taken for a predicate, and so left out
-unfoldable pub equalities-below : List Node → ℕ → List Tested
-equalities-below nodes zero = []
-equalities-below nodes (suc n) = equalities-below nodes n ++ if-equality (as-condition (tree-at nodes n))
+unfoldable pub equalities_below : List Node → ℕ → List Tested
+equalities_below nodes zero = []
+equalities_below nodes (suc n) = equalities_below nodes n ++ if_equality (as_condition (tree_at nodes n))
 
-unfoldable pub equalities-of : Outcome → List Tested
-equalities-of (reader.refused number offset) = []
-equalities-of (reader.accepted c) = equalities-below (c .nodes) (length (c .nodes))
+unfoldable pub equalities_of : Outcome → List Tested
+equalities_of (reader.refused number offset) = []
+equalities_of (reader.accepted c) = equalities_below c.nodes (length c.nodes)
 
 unfoldable pub told : Input → Told
 told i =
     record {
-      counted = verdict (read (i .bytes));
-      listed = listing-numbers (questions.list (i .bytes) (length (i .lent)));
-      buffer = questions.list-buffer (i .bytes) (i .lent);
-      arithmetic = arithmetic-numbers (questions.arithmetic (i .bytes));
-      scoping = answer-numbers (questions.scoping (i .bytes) (among (i .scope)));
-      closedness = answer-numbers (questions.closedness (i .bytes));
-      demands = answer-numbers (questions.demands (i .bytes));
-      name = questions.name (i .bytes) (i .number);
-      equalities = equalities-of (read (i .bytes));
+      counted = verdict (read i.bytes);
+      listed = listing_numbers (questions.list i.bytes (length i.lent));
+      buffer = questions.list_buffer i.bytes i.lent;
+      arithmetic = arithmetic_numbers (questions.arithmetic i.bytes);
+      scoping = answer_numbers (questions.scoping i.bytes (among i.scope));
+      closedness = answer_numbers (questions.closedness i.bytes);
+      demands = answer_numbers (questions.demands i.bytes);
+      name = questions.name i.bytes i.number;
+      equalities = equalities_of (read i.bytes);
     }
 
 abbrev asked : List ℕ → List ℕ → List ℕ → ℕ → Input
@@ -108,20 +103,20 @@ abbrev numbers : ℕ → ℕ → ℕ → Numbers
 numbers number place name = record { number = number; place = place; name = name }
 
 abbrev tested : ℕ → Equality → Tested
-tested node says = record { node = node-no node; says = says }
+tested node says = record { node = node_no node; says = says }
 
 abbrev accepted : Verdict → Numbers → List ℕ → Numbers → Numbers → Numbers → Numbers → List ℕ → List Tested → Told
-accepted counts listing buffer yes-or-no first-20-to-27 first-28 first-30-to-32 text each-tested =
+accepted counts listing buffer yes_or_no first_20_to_27 first_28 first_30_to_32 text each_tested =
     record {
       counted = counts;
       listed = listing;
       buffer = buffer;
-      arithmetic = yes-or-no;
-      scoping = first-20-to-27;
-      closedness = first-28;
-      demands = first-30-to-32;
+      arithmetic = yes_or_no;
+      scoping = first_20_to_27;
+      closedness = first_28;
+      demands = first_30_to_32;
       name = text;
-      equalities = each-tested;
+      equalities = each_tested;
     }
 
 abbrev refused : ℕ → ℕ → List ℕ → Told
@@ -167,12 +162,12 @@ fn group(number: usize, inputs: &[Input]) -> String {
     let told = inputs.iter().map(told);
     format!(
         "
-group-{number} :
+group_{number} :
     map told
     {}
     ≡ {}
-unfolding computed among if-equality equalities-below equalities-of told
-group-{number} = refl
+unfolding computed among if_equality equalities_below equalities_of told
+group_{number} = refl
 ",
         list(asked),
         list(told)
@@ -229,8 +224,8 @@ fn first(entry: Option<Entry>) -> String {
 
 fn tested((node, equality): (NodeNumber, Equality)) -> String {
     let says = match equality {
-        Equality::Left(name) => format!("Left (name-no {})", name.0),
-        Equality::Right(name) => format!("Right (name-no {})", name.0),
+        Equality::Left(name) => format!("Left (name_no {})", name.0),
+        Equality::Right(name) => format!("Right (name_no {})", name.0),
         Equality::Nothing(reason) => format!("Nothing {}", variant(reason)),
     };
     format!("tested {} ({says})", node.0)

@@ -45,8 +45,8 @@ impl Folder {
 
     pub fn check(&self) -> io::Result<Output> {
         Command::new("rt")
-            .args(["check", "paper"])
-            .current_dir(&self.path)
+            .arg("check")
+            .current_dir(self.paper())
             .output()
     }
 

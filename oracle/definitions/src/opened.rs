@@ -9,7 +9,7 @@ pub fn definitions(module: &str, text: &str) -> Vec<String> {
             in_unfoldable_block = line == "unfoldable mutual";
         }
         if let Some(name) = unfoldable(line, in_unfoldable_block) {
-            names.push(format!("Rattle·paper·specs.specs.{module}.{name}"));
+            names.push(format!("Rattle.paper.specs.{module}.{name}"));
         }
     }
     names
@@ -34,15 +34,15 @@ mod tests {
 abbrev pub Set : Type 0
 Set = ℕ → Bool
 
-infixl 64 _∪_
-unfoldable pub _∪_ : Set → Set → Set
-_∪_ a b k = a k || b k
+infixl 64 ◌∪◌
+unfoldable pub ◌∪◌ : Set → Set → Set
+◌∪◌ a b k = a k || b k
 
 unfoldable mutual
   pub free : Condition → Set
   free (Not n b) = free b
 
-  pub term-free : Term → Set
+  pub term_free : Term → Set
 
 pub data Tree : Type 0 where
 module _ (t : ℕ → Tree) where
@@ -52,8 +52,8 @@ module _ (t : ℕ → Tree) where
 
     #[test]
     fn the_unfoldable_ones_and_no_others() {
-        let names = ["_∪_", "free", "term-free", "planted"];
-        let paths = names.map(|name| format!("Rattle·paper·specs.specs.Sets.{name}"));
+        let names = ["◌∪◌", "free", "term_free", "planted"];
+        let paths = names.map(|name| format!("Rattle.paper.specs.Sets.{name}"));
         assert_eq!(definitions("Sets", TEXT), paths);
     }
 }

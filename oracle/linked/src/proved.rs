@@ -1,6 +1,6 @@
 use crate::{Asked, Library, Stretch};
 
-/// The library that `rt staticlib noravilump` writes, as include/noravilump.h declares it.
+/// The library that `rt lib` writes in crates/noravilump, as include/noravilump.h declares it.
 pub struct Proved;
 
 unsafe extern "C" {
