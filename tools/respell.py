@@ -30,7 +30,8 @@ def files(root, *ends):
 
 
 def of_function(path):
-    return os.path.basename(path) in ("Proof.antt", "Answers.antt", "Invariants.antt")
+    folder, name = os.path.split(path)
+    return name in ("Proof.antt", "Answers.antt", "Invariants.antt") and os.path.basename(folder) != "proofs"
 
 
 def read(path):

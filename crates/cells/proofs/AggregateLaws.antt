@@ -18,9 +18,9 @@ use Rattle.paper.specs.Record.{node_no}
 use Rattle.paper.specs.Sets.{Set, none, only, ◌∪◌, ◌∖◌, outside}
 use Rattle.paper.specs.Tree.{Condition, Binders, Tree, as_term, as_binders, planted}
 use Rattle.paper.specs.Tree.Binders.{no_binder, binder}
-use Rattle.paper.specs.FreeAndRestricted.{named, is_sigil, binder_names, free, restricted}
+use Rattle.paper.specs.FreeAndRestricted.{named, binder_names, free, restricted}
 use Rattle.paper.specs.Places.{Cell, for_names, at_cells, gather, at_cell, findings}
-use Rattle.paper.specs.Scoping.{binder_sigil, cell_of, cells}
+use Rattle.paper.specs.Scoping.{cell_of, cells}
 use Rattle.trees.specs.Trees.{tree_of, condition_of, term_of, binders_of}
 use Rattle.trees.proofs.Arms.{Arm}
 use Rattle.trees.proofs.ByKind.{term_cases}

@@ -39,15 +39,15 @@ pub record Tells (entries : List Finding) (r : Answer) : Type 0 where
   pub refuses : (f : Finding) → (r ≡ answer.Unmet f) ↔ ((rest : List Finding) × (entries ≡ f ∷ rest))
   pub reads : (number offset : ℕ) → r ≡ answer.Refused number offset → ⊥
 
-first-tells : (entries : List Finding) → Tells entries (first entries)
+first_tells : (entries : List Finding) → Tells entries (first entries)
 unfolding first
-first-tells [] =
+first_tells [] =
     record {
       accepts = (λ e. refl, λ e. refl);
       refuses = λ f. (λ e. absurd (let z : ◌≡◌ {A = ℕ} 0 1 = cc in omega arith), λ w. absurd (nil_cons f w.0 w.1));
       reads = λ number offset e. let z : ◌≡◌ {A = ℕ} 0 1 = cc in omega arith;
     }
-first-tells (g ∷ entries) =
+first_tells (g ∷ entries) =
     record {
       accepts = (λ e. absurd (let z : ◌≡◌ {A = ℕ} 0 1 = cc in omega arith), λ e. absurd (nil_cons g entries (sym e)));
       refuses = λ f. (λ e. (entries, ap (λ (x : Finding). x ∷ entries) (same f e)), λ w. ap answer.Unmet (head-eq_of_cons-eq w.1));
@@ -57,30 +57,30 @@ first-tells (g ∷ entries) =
     same : (f : Finding) → answer.Unmet g ≡ answer.Unmet f → g ≡ f
     same f e = cc
 
-pub answered-tells : (part : Contents → List Finding) (o : Outcome) (c : Contents) → o ≡ accepted c → Tells (part c) (answered part o)
+pub answered_tells : (part : Contents → List Finding) (o : Outcome) (c : Contents) → o ≡ accepted c → Tells (part c) (answered part o)
 unfolding answered
-answered-tells part o c e = subst (λ (z : Outcome). Tells (part c) (answered part z)) (sym e) (first-tells (part c))
+answered_tells part o c e = subst (λ (z : Outcome). Tells (part c) (answered part z)) (sym e) (first_tells (part c))
 
-pub scoping-tells : (bytes : List ℕ) (seed : Set) (c : Contents) → read bytes ≡ accepted c → Tells (scoping_part c seed) (scoping bytes seed)
+pub scoping_tells : (bytes : List ℕ) (seed : Set) (c : Contents) → read bytes ≡ accepted c → Tells (scoping_part c seed) (scoping bytes seed)
 unfolding scoping
-scoping-tells bytes seed = answered-tells (λ c. scoping_part c seed) (read bytes)
+scoping_tells bytes seed = answered_tells (λ c. scoping_part c seed) (read bytes)
 
-pub closedness-tells : (bytes : List ℕ) (c : Contents) → read bytes ≡ accepted c → Tells (closedness_part c) (closedness bytes)
+pub closedness_tells : (bytes : List ℕ) (c : Contents) → read bytes ≡ accepted c → Tells (closedness_part c) (closedness bytes)
 unfolding closedness
-closedness-tells bytes = answered-tells closedness_part (read bytes)
+closedness_tells bytes = answered_tells closedness_part (read bytes)
 
-pub demands-tells : (bytes : List ℕ) (c : Contents) → read bytes ≡ accepted c → Tells (demands_part c) (demands bytes)
+pub demands_tells : (bytes : List ℕ) (c : Contents) → read bytes ≡ accepted c → Tells (demands_part c) (demands bytes)
 unfolding demands
-demands-tells bytes = answered-tells demands_part (read bytes)
+demands_tells bytes = answered_tells demands_part (read bytes)
 
 -- with no seed a check speaks of the list itself: its part is those of the list's entries that have the part's rules
 pub list_tells : (bytes : List ℕ) (c : Contents) → read bytes ≡ accepted c
     → Tells (ruled 20 27 (the_list c)) (scoping bytes none) × Tells (ruled 28 28 (the_list c)) (closedness bytes)
     × Tells (ruled 30 32 (the_list c)) (demands bytes)
 list_tells bytes c e = (
-  subst (λ (l : List Finding). Tells l (scoping bytes none)) (sym (list_scoping c)) (scoping-tells bytes none c e),
-  subst (λ (l : List Finding). Tells l (closedness bytes)) (sym (list_closedness c)) (closedness-tells bytes c e),
-  subst (λ (l : List Finding). Tells l (demands bytes)) (sym (list_demands c)) (demands-tells bytes c e),
+  subst (λ (l : List Finding). Tells l (scoping bytes none)) (sym (list_scoping c)) (scoping_tells bytes none c e),
+  subst (λ (l : List Finding). Tells l (closedness bytes)) (sym (list_closedness c)) (closedness_tells bytes c e),
+  subst (λ (l : List Finding). Tells l (demands bytes)) (sym (list_demands c)) (demands_tells bytes c e),
 )
 
 -- ---- the list and the three checks
@@ -91,68 +91,68 @@ or_else answer.Accepted b = b
 or_else (answer.Unmet f) b = answer.Unmet f
 or_else (answer.Refused number offset) b = answer.Refused number offset
 
-first-append : (a b : List Finding) → first (a ++ b) ≡ or_else (first a) (first b)
+first_append : (a b : List Finding) → first (a ++ b) ≡ or_else (first a) (first b)
 unfolding first
-first-append [] b = refl
-first-append (f ∷ a) b = refl
+first_append [] b = refl
+first_append (f ∷ a) b = refl
 
 -- the list's first entry is that of the first check, in the order of its parts, that does not accept; and the list is empty where all three accept
-pub list-first : (bytes : List ℕ) → answered the_list (read bytes) ≡ or_else (scoping bytes none) (or_else (closedness bytes) (demands bytes))
+pub list_first : (bytes : List ℕ) → answered the_list (read bytes) ≡ or_else (scoping bytes none) (or_else (closedness bytes) (demands bytes))
 unfolding scoping closedness demands
-list-first bytes = go (read bytes)
+list_first bytes = go (read bytes)
   where
     go : (o : Outcome)
         → answered the_list o ≡ or_else (answered (λ c. scoping_part c none) o) (or_else (answered closedness_part o) (answered demands_part o))
     go (refused number offset) = unfold answered in refl
     go (accepted c) =
         unfold answered the_list in
-        (first-append (scoping_part c none) (closedness_part c ++ demands_part c)
-        ∙ ap (or_else (first (scoping_part c none))) (first-append (closedness_part c) (demands_part c)))
+        (first_append (scoping_part c none) (closedness_part c ++ demands_part c)
+        ∙ ap (or_else (first (scoping_part c none))) (first_append (closedness_part c) (demands_part c)))
 
 -- ---- exactness
 
-pub scoping-only : (c : Contents) (seed : Set) (l : List Finding) → Exactly (ScopingUnmet c seed) l → l ≡ scoping_part c seed
-scoping-only c seed l e = exactly_one (ScopingUnmet c seed) l (scoping_part c seed) e (scoping_exact c seed)
+pub scoping_only : (c : Contents) (seed : Set) (l : List Finding) → Exactly (ScopingUnmet c seed) l → l ≡ scoping_part c seed
+scoping_only c seed l e = exactly_one (ScopingUnmet c seed) l (scoping_part c seed) e (scoping_exact c seed)
 
-pub closedness-only : (c : Contents) (l : List Finding) → Exactly (ClosednessUnmet c) l → l ≡ closedness_part c
-closedness-only c l e = exactly_one (ClosednessUnmet c) l (closedness_part c) e (closedness_exact c)
+pub closedness_only : (c : Contents) (l : List Finding) → Exactly (ClosednessUnmet c) l → l ≡ closedness_part c
+closedness_only c l e = exactly_one (ClosednessUnmet c) l (closedness_part c) e (closedness_exact c)
 
-pub demands-only : (c : Contents) (l : List Finding) → Exactly (DemandUnmet c) l → l ≡ demands_part c
-demands-only c l e = exactly_one (DemandUnmet c) l (demands_part c) e (demands_exact c)
+pub demands_only : (c : Contents) (l : List Finding) → Exactly (DemandUnmet c) l → l ≡ demands_part c
+demands_only c l e = exactly_one (DemandUnmet c) l (demands_part c) e (demands_exact c)
 
 -- "the list holds exactly these, once and in order": three parts, each with exactly what is unmet of its rules
 pub record ExactList (c : Contents) (l : List Finding) : Type 0 where
-  pub of-scoping : List Finding
-  pub of-closedness : List Finding
-  pub of-demands : List Finding
-  pub parts : l ≡ of-scoping ++ (of-closedness ++ of-demands)
-  pub scoping-holds : Exactly (ScopingUnmet c none) of-scoping
-  pub closedness-holds : Exactly (ClosednessUnmet c) of-closedness
-  pub demands-holds : Exactly (DemandUnmet c) of-demands
+  pub of_scoping : List Finding
+  pub of_closedness : List Finding
+  pub of_demands : List Finding
+  pub parts : l ≡ of_scoping ++ (of_closedness ++ of_demands)
+  pub scoping_holds : Exactly (ScopingUnmet c none) of_scoping
+  pub closedness_holds : Exactly (ClosednessUnmet c) of_closedness
+  pub demands_holds : Exactly (DemandUnmet c) of_demands
 
-pub list-exact : (c : Contents) → ExactList c (the_list c)
+pub list_exact : (c : Contents) → ExactList c (the_list c)
 unfolding the_list
-list-exact c =
+list_exact c =
     record {
-      of-scoping = scoping_part c none;
-      of-closedness = closedness_part c;
-      of-demands = demands_part c;
+      of_scoping = scoping_part c none;
+      of_closedness = closedness_part c;
+      of_demands = demands_part c;
       parts = refl;
-      scoping-holds = scoping_exact c none;
-      closedness-holds = closedness_exact c;
-      demands-holds = demands_exact c;
+      scoping_holds = scoping_exact c none;
+      closedness_holds = closedness_exact c;
+      demands_holds = demands_exact c;
     }
 
-pub list-only : (c : Contents) (l : List Finding) → ExactList c l → l ≡ the_list c
+pub list_only : (c : Contents) (l : List Finding) → ExactList c l → l ≡ the_list c
 unfolding the_list
-list-only c l e =
+list_only c l e =
     e.parts
-    ∙ ap₂ {C = List Finding} ◌++◌ (scoping-only c none e.of-scoping e.scoping-holds)
-    (ap₂ {C = List Finding} ◌++◌ (closedness-only c e.of-closedness e.closedness-holds) (demands-only c e.of-demands e.demands-holds))
+    ∙ ap₂ {C = List Finding} ◌++◌ (scoping_only c none e.of_scoping e.scoping_holds)
+    (ap₂ {C = List Finding} ◌++◌ (closedness_only c e.of_closedness e.closedness_holds) (demands_only c e.of_demands e.demands_holds))
 
 -- no number stands twice in what is written
-pub list-once : (bytes : List ℕ) (c : Contents) → read bytes ≡ accepted c → Distinct (packed c)
-list-once bytes c e = once_each c (well_formed bytes c e)
+pub list_once : (bytes : List ℕ) (c : Contents) → read bytes ≡ accepted c → Distinct (packed c)
+list_once bytes c e = once_each c (well_formed bytes c e)
 
 -- ---- the list's answer and the lent buffer
 
@@ -184,9 +184,9 @@ Says o before after (listing.Listed count) = Success o before after count
 Says o before after (listing.NoRoom needed) = TooLong o before after needed
 Says o before after (listing.Refused number offset) = TurnedBack o before after number offset
 
-pub list-says : (bytes before : List ℕ) → Says (read bytes) before (list_buffer bytes before) (list bytes (length before))
+pub list_says : (bytes before : List ℕ) → Says (read bytes) before (list_buffer bytes before) (list bytes (length before))
 unfolding list list_buffer listing_of buffer_of
-list-says bytes before = said (read bytes)
+list_says bytes before = said (read bytes)
   where
     fitting : (c : Contents) (t : Bool) → leb (length (packed c)) (length before) ≡ t
         → Says (accepted c) before (pick t (packed c ++ drop (length (packed c)) before) before)
@@ -207,32 +207,32 @@ list-says bytes before = said (read bytes)
     said (refused number offset) = record { holds = refl; unwritten = refl }
     said (accepted c) = fitting c (leb (length (packed c)) (length before)) refl
 
-list-said : (bytes before : List ℕ) (r : Listing) → list bytes (length before) ≡ r → Says (read bytes) before (list_buffer bytes before) r
-list-said bytes before r e = subst (Says (read bytes) before (list_buffer bytes before)) e (list-says bytes before)
+list_said : (bytes before : List ℕ) (r : Listing) → list bytes (length before) ≡ r → Says (read bytes) before (list_buffer bytes before) r
+list_said bytes before r e = subst (Says (read bytes) before (list_buffer bytes before)) e (list_says bytes before)
 
 -- "Success returns the count and changes only that many entries, the first ones"
-pub list-success : (bytes before : List ℕ) (count : ℕ) → list bytes (length before) ≡ listing.Listed count
+pub list_success : (bytes before : List ℕ) (count : ℕ) → list bytes (length before) ≡ listing.Listed count
     → Success (read bytes) before (list_buffer bytes before) count
-list-success bytes before count = list-said bytes before (listing.Listed count)
+list_success bytes before count = list_said bytes before (listing.Listed count)
 
 -- "50, after them, returns the entries needed. None writes anything."
-pub list-too-long : (bytes before : List ℕ) (needed : ℕ) → list bytes (length before) ≡ listing.NoRoom needed
+pub list_too_long : (bytes before : List ℕ) (needed : ℕ) → list bytes (length before) ≡ listing.NoRoom needed
     → TooLong (read bytes) before (list_buffer bytes before) needed
-list-too-long bytes before needed = list-said bytes before (listing.NoRoom needed)
+list_too_long bytes before needed = list_said bytes before (listing.NoRoom needed)
 
-pub list-turned-back : (bytes before : List ℕ) (number offset : ℕ) → list bytes (length before) ≡ listing.Refused number offset
+pub list_turned_back : (bytes before : List ℕ) (number offset : ℕ) → list bytes (length before) ≡ listing.Refused number offset
     → TurnedBack (read bytes) before (list_buffer bytes before) number offset
-list-turned-back bytes before number offset = list-said bytes before (listing.Refused number offset)
+list_turned_back bytes before number offset = list_said bytes before (listing.Refused number offset)
 
 -- and a list that there is room for is written
-pub list-writes : (bytes before : List ℕ) (c : Contents) → read bytes ≡ accepted c → length (packed c) ≤ length before
+pub list_writes : (bytes before : List ℕ) (c : Contents) → read bytes ≡ accepted c → length (packed c) ≤ length before
     → (list bytes (length before) ≡ listing.Listed (length (packed c))) × (list_buffer bytes before ≡ packed c ++ drop (length (packed c)) before)
 unfolding list list_buffer listing_of buffer_of
-list-writes bytes before c e h = let d = le-leb (length (packed c)) (length before) h in (rw (e, d), rw (e, d))
+list_writes bytes before c e h = let d = le-leb (length (packed c)) (length before) h in (rw (e, d), rw (e, d))
 
 -- the buffer keeps its length
-pub buffer-long : (bytes before : List ℕ) → length (list_buffer bytes before) ≡ length before
-buffer-long bytes before = go (list bytes (length before)) (list-says bytes before)
+pub buffer_long : (bytes before : List ℕ) → length (list_buffer bytes before) ≡ length before
+buffer_long bytes before = go (list bytes (length before)) (list_says bytes before)
   where
     go : (r : Listing) → Says (read bytes) before (list_buffer bytes before) r → length (list_buffer bytes before) ≡ length before
     go (listing.Listed count) w =

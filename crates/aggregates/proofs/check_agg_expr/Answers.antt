@@ -1,7 +1,6 @@
 -- `check_agg_expr` writes the five rules of the aggregate that a node is, and nothing for any other node.
 use mathlib.Core.Path.{◌≡◌, refl, ap, ◌∙◌}
 use mathlib.Core.List.{List}
-use borrow.Author.Rules.{rules}
 use borrow.Enum.Refused.{opened}
 use Rattle.paper.specs.declared.Finding.{Finding}
 use Rattle.paper.specs.declared.Node.{Node}

@@ -2,7 +2,6 @@
 use mathlib.Core.Path.{◌≡◌, refl, ap₂, ◌∙◌}
 use mathlib.Core.List.{List}
 use native.Mathlib.Omega.{arith}
-use borrow.Author.Rules.{rules}
 use Rattle.paper.specs.declared.NodeNo.{NodeNo}
 use Rattle.paper.specs.Sets.{Set, ◌∪◌, ◌∖◌}
 use Rattle.paper.specs.Places.{Cell, gather, findings}

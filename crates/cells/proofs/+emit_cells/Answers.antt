@@ -1,5 +1,5 @@
 -- `emit_cells` writes the entries at the cells of a list, in order.
-use Rattle.std.proofs.Common.{◌≡◌, ℕ, List, refl, sym, ap, ◌∙◌, arith, rules}
+use Rattle.std.proofs.Common.{ℕ, List, refl, sym, ap, ◌∙◌, arith, rules}
 use Rattle.paper.specs.declared.Finding.{Finding}
 use Rattle.paper.specs.Sets.{Set}
 use Rattle.paper.specs.Places.{Cell as Bound, at_cells, findings}

@@ -1,7 +1,5 @@
 -- `gathered` takes the binders out, and asks whether the body needs and restricts them. Assumes nothing.
-use mathlib.Core.Path.{ap, ◌∙◌, subst}
-use mathlib.Core.Bool.{Bool, not}
-use borrow.Author.Rules.{rules}
+use mathlib.Core.Path.{subst}
 use Rattle.paper.specs.Sets.{Set, outside}
 use Rattle.names.specs.Words.{mem}
 use Rattle.names.specs.Apart.{Apart}

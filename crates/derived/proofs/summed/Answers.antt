@@ -1,5 +1,5 @@
 -- `summed` asks whether the slot is a sigil, or a name that no binder has. Assumes nothing.
-use mathlib.Core.Path.{◌∙◌, ap, ap₂, subst}
+use mathlib.Core.Path.{◌∙◌, ap₂, subst}
 use mathlib.Core.Bool.{Bool, ◌||◌}
 use Rattle.paper.specs.Sets.{Set, outside}
 use Rattle.paper.specs.FreeAndRestricted.{binder_names}

@@ -1,5 +1,4 @@
 -- `part_entries` has a row for each node: 32 of them, or 512. Assumes nothing.
-use borrow.Author.Rules.{rules}
 use Rattle.listing.proofs.ListingLaws.{in_all_rows}
 use Rattle.entries.proofs.part_entries.Goals as goal
 

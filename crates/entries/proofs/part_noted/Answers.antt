@@ -1,5 +1,4 @@
 -- `part_noted` gathers the facts of the nodes, and walks over them where there may be something to tell. Assumes nothing.
-use borrow.Author.Rules.{rules}
 use Rattle.writes.proofs.WriteLaws.{wrote_none, wrote_is}
 use Rattle.listing.proofs.ListingLaws.{from_last}
 use Rattle.entries.proofs.part_noted.Goals as goal

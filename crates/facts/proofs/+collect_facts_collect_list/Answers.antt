@@ -1,5 +1,5 @@
 -- `collect_facts` and `collect_list` call each other on the nodes below.
-use Rattle.std.proofs.Common.{refl, ap, ◌∙◌, arith, rules}
+use Rattle.std.proofs.Common.{refl, ap, ◌∙◌, arith}
 use borrow.Enum.Refused.{opened}
 use Rattle.known.specs.Known.{join}
 use Rattle.known.specs.Rows.{meant}

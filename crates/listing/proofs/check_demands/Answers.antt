@@ -1,6 +1,5 @@
 -- `check_demands` writes the part of 30 to 32.
 use mathlib.Core.Path.{sym, ◌∙◌}
-use borrow.Author.Rules.{rules}
 use Rattle.writes.proofs.WriteLaws.{wrote_none, wrote_is, room_is}
 use Rattle.listing.proofs.ListingLaws.{no_demands, demands_are}
 use Rattle.listing.proofs.check_demands.Goals as goal

@@ -5,7 +5,7 @@ use Rattle.paper.specs.Sets.{Set}
 use Rattle.trees.specs.Trees.{tree_of}
 use Rattle.names.specs.Words.{mem}
 use Rattle.known.specs.Needs.{has_none, met, sound}
-use Rattle.known.specs.Known.{Known, known_of}
+use Rattle.known.specs.Known.{known_of}
 use Rattle.known.proofs.RowLaws.{body_had}
 use Rattle.listing.specs.Parts.{clean}
 use Rattle.listing.proofs.is_clean.Goals as goal

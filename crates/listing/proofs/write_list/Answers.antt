@@ -1,6 +1,5 @@
 -- `write_list` writes the three parts in their order.
 use native.Mathlib.Omega.{arith}
-use borrow.Author.Rules.{rules}
 use Rattle.writes.proofs.WriteLaws.{wrote_then, wrote_is, room_is, room_first, room_rest}
 use Rattle.listing.proofs.ListingLaws.{listed_are}
 use Rattle.listing.proofs.write_list.Goals as goal

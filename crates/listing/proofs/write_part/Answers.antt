@@ -1,5 +1,4 @@
 -- `write_part` writes the part that the check asks for.
-use borrow.Author.Rules.{rules}
 use Rattle.writes.proofs.WriteLaws.{wrote_is, room_is}
 use Rattle.listing.proofs.ListingLaws.{part_scoping, part_closedness, part_demands}
 use Rattle.listing.proofs.write_part.Goals as goal

@@ -1,11 +1,8 @@
 -- `check_conjunct_demands` writes a condition's own entries: a comparison's, 31 of Not, 32 of Since. What each arm writes stands first.
 use mathlib.Core.Path.{◌≡◌, refl, sym, ap₂, ◌∙◌}
-use borrow.Author.Rules.{rules}
 use borrow.Enum.Refused.{opened}
-use Rattle.paper.specs.declared.Node.TheVariants as node
 use Rattle.paper.specs.Sets.{◌∪◌}
 use Rattle.known.proofs.RowLaws.{body_row, term_row}
-use Rattle.trees.proofs.Arms.{Arm}
 use Rattle.views.specs.declared.Owing.{Owing}
 use Rattle.views.proofs.SeenLaws.{held_arm, OwingArm, owing_told}
 use Rattle.writes.proofs.WriteLaws.{wrote_none, wrote_is, room_is}

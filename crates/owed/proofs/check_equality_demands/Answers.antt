@@ -1,5 +1,4 @@
 -- `check_equality_demands` writes 30 for the value of a binding equality, and what any other comparison has where nothing is tied.
-use borrow.Author.Rules.{rules}
 use Rattle.writes.proofs.WriteLaws.{wrote_is, room_is}
 use Rattle.owed.proofs.DemandLaws.{equated_left, equated_right, equated_nothing}
 use Rattle.owed.proofs.check_equality_demands.Goals as goal

@@ -1,5 +1,4 @@
 -- `reject_unmet_sides` writes 31 for the names of both sides that are not tied.
-use borrow.Author.Rules.{rules}
 use Rattle.writes.proofs.WriteLaws.{wrote_is, room_is}
 use Rattle.owed.proofs.DemandLaws.{compared_sides}
 use Rattle.owed.proofs.reject_unmet_sides.Goals as goal

@@ -1,6 +1,5 @@
 -- `tied_second` gives what is tied at the second place below a condition.
 use mathlib.Core.Path.{◌≡◌, sym, ◌∙◌}
-use borrow.Author.Rules.{rules}
 use borrow.Enum.Refused.{opened}
 use Rattle.known.proofs.RowLaws.{body_row}
 use Rattle.views.specs.declared.Owing.{Owing}

@@ -1,5 +1,4 @@
 -- `list_counted` counts the entries, and writes them where there are any and room for all. Assumes nothing.
-use borrow.Author.Rules.{rules}
 use Rattle.listing.proofs.ListingLaws.{filled_none, filled_not, filled_all}
 use Rattle.whole.proofs.list_counted.Goals as goal
 

@@ -1,5 +1,4 @@
 -- `list_entries` has a row for each node: 32 of them, 128, 256 or 512. Assumes nothing.
-use borrow.Author.Rules.{rules}
 use Rattle.listing.proofs.ListingLaws.{in_all_rows}
 use Rattle.whole.proofs.list_entries.Goals as goal
 

@@ -6,8 +6,6 @@ use Prim.Native.Nat.{ℕ}
 use native.Mathlib.Nat.{le_of_eq}
 use native.Mathlib.Omega.{arith}
 use lib.ListN.{length}
-use borrow.Author.Rules.{rules}
-use borrow.Author.Tests.{not-true, not-false}
 use Rattle.paper.specs.declared.NodeNo.{NodeNo}
 use Rattle.paper.specs.declared.Finding.{Finding}
 use Rattle.paper.specs.Sets.{outside, all_below}
@@ -15,7 +13,6 @@ use Rattle.paper.specs.Places.{for_names, findings}
 use Rattle.names.specs.declared.Names.{Names}
 use Rattle.names.specs.Words.{mem}
 use Rattle.names.proofs.LeastLaws.{some_least}
-use Rattle.writes.specs.Written.{Wrote}
 use Rattle.writes.proofs.WriteLaws.{wrote_none, wrote_then, wrote_is, wrote_length, room_is, room_first, room_rest}
 use Rattle.writes.proofs.NameLaws.{made, no_names, next_name}
 use Rattle.writes.proofs.emit.Goals as goal

@@ -1,23 +1,14 @@
 -- `emit` writes the entries for the names of a set, ascending: the entries written so far and those of the names that are left are all.
-use mathlib.Core.Path.{◌≡◌, refl, sym, ap, ◌∙◌}
-use mathlib.Core.Bool.{false}
-use mathlib.Core.List.{List, [], ◌∷◌, ◌++◌, append-nil, append_assoc}
+use mathlib.Core.Path.{◌≡◌}
+use mathlib.Core.List.{List, ◌++◌}
 use Prim.Native.Nat.{ℕ}
-use native.Mathlib.Nat.{le_of_eq}
-use native.Mathlib.Omega.{arith}
 use lib.ListN.{length}
-use borrow.Author.Rules.{rules}
-use borrow.Author.Tests.{not-true, not-false}
 use Rattle.paper.specs.declared.NodeNo.{NodeNo}
 use Rattle.paper.specs.declared.Finding.{Finding}
-use Rattle.paper.specs.Sets.{outside, all_below}
 use Rattle.paper.specs.Places.{for_names, findings}
 use Rattle.names.specs.declared.Names.{Names}
 use Rattle.names.specs.Words.{mem}
-use Rattle.names.proofs.LeastLaws.{some_least}
 use Rattle.writes.specs.Written.{Wrote}
-use Rattle.writes.proofs.WriteLaws.{wrote_none, wrote_then, wrote_is, wrote_length, room_is, room_first, room_rest}
-use Rattle.writes.proofs.NameLaws.{made, no_names, next_name}
 use Rattle.writes.proofs.emit.Given as goal
 
 abbrev entries_of : ℕ → NodeNo → Names → List Finding

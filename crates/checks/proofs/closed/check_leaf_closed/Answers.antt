@@ -1,4 +1,3 @@
-use borrow.Author.Rules.{rules}
 use Rattle.writes.proofs.WriteLaws.{wrote_is, room_is}
 use Rattle.writes.proofs.NameLaws.{for_same}
 use Rattle.checks.proofs.closed.check_leaf_closed.Goals as goal

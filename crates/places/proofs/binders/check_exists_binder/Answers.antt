@@ -1,6 +1,5 @@
 -- `check_exists_binder` writes 22 and then 23 at the binder of an exists.
 use native.Mathlib.Nat.{le_refl}
-use borrow.Author.Rules.{rules}
 use Rattle.writes.proofs.WriteLaws.{wrote_then, wrote_is, room_is, room_first, room_rest}
 use Rattle.writes.proofs.NameLaws.{for_same}
 use Rattle.places.proofs.binders.check_exists_binder.Goals as goal

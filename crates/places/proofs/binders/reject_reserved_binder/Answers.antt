@@ -1,5 +1,4 @@
 use mathlib.Core.Path.{refl, ap₂, ◌∙◌}
-use borrow.Author.Rules.{rules}
 use Rattle.paper.specs.Sets.{◌∩◌}
 use Rattle.writes.proofs.WriteLaws.{wrote_is, room_is}
 use Rattle.writes.proofs.NameLaws.{for_same}

@@ -1,7 +1,6 @@
 -- `unsafe_name` gives the binder's name where 23 is broken.
 use mathlib.Core.Path.{◌≡◌, sym, ap₂, ◌∙◌}
 use mathlib.Core.Bool.{Bool, true, false}
-use borrow.Author.Rules.{rules}
 use Rattle.paper.specs.Record.{pick}
 use Rattle.paper.specs.Sets.{Set, ◌∖◌}
 use Rattle.places.proofs.binders.unsafe_name.Goals as goal

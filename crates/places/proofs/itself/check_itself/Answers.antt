@@ -1,6 +1,5 @@
 -- `check_itself` writes what is found at a condition itself.
 use mathlib.Core.Path.{◌≡◌, sym, ◌∙◌}
-use borrow.Author.Rules.{rules}
 use Rattle.trees.proofs.Sorts.{a_body}
 use Rattle.slots.proofs.SlotLaws.{slot_tabled}
 use Rattle.views.specs.declared.Itself.{Itself}

@@ -1,6 +1,5 @@
 -- `scope_first` gives what is in scope at the first place below a condition.
 use mathlib.Core.Path.{◌≡◌, sym, ◌∙◌}
-use borrow.Author.Rules.{rules}
 use borrow.Enum.Refused.{opened}
 use Rattle.slots.proofs.SlotLaws.{slot_tabled}
 use Rattle.views.specs.declared.Itself.{Itself}

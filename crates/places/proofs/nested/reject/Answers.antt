@@ -1,4 +1,3 @@
-use borrow.Author.Rules.{rules}
 use Rattle.paper.specs.Places.{findings}
 use Rattle.places.proofs.nested.reject.Goals as goal
 
