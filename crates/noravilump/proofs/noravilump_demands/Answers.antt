@@ -1,0 +1,14 @@
+-- `noravilump_demands` says the answer in numbers, and its place fits.
+use mathlib.Core.Path.{ap, ◌∙◌}
+use borrow.Author.Rules.{rules}
+use Rattle.paper.specs.declared.Answer.{Answer}
+use Rattle.paper.specs.Questions.{answer_numbers}
+use Rattle.numbers.specs.Numbers.{asked}
+use Rattle.numbers.proofs.Places.{demands_fits}
+use Rattle.noravilump.proofs.noravilump_demands.Goals as goal
+
+pub answered-requires : goal.answered-requires
+answered-requires c = demands_fits _ _ c.demands-a.ensures
+
+pub returns : goal.returns
+returns c = c.answered.ensures ∙ ap (λ (a : Answer). asked (answer_numbers a)) c.demands-a.ensures
