@@ -6,10 +6,13 @@ use Rattle.accepted.proofs.list.Goals as goal
 
 pub list_entries-count-requires : goal.list_entries-count-requires
 list_entries-count-requires c =
-    let r = c.root.ensures in  record { last = last_root _ _ c.requires.0 c.fill.ensures _ r; room = (
+    let r = c.root.ensures in record {
+      last = last_root _ _ c.requires.0 c.fill.ensures _ r;
+      room = (
         list_room _ _ c.requires.0 c.fill.ensures _ r _ c.requires.1,
         list_most _ _ c.requires.0 c.fill.ensures _ r _ c.requires.1 c.requires.2 c.most_entries-most.ensures,
-      ) }
+      );
+    }
 
 pub returns-then-room-count : goal.returns-then-room-count
 returns-then-room-count c =

@@ -12,6 +12,6 @@ listed-requires c = list_fits _ _ _ c.list-l.ensures.0
 
 pub returns : goal.returns
 returns c = (
-      c.listed.ensures ∙ ap (λ (l : Listing). asked (listing_numbers l)) c.list-l.ensures.0,
-      c.list-l.ensures.1,
-    )
+  c.listed.ensures ∙ ap (λ (l : Listing). asked (listing_numbers l)) c.list-l.ensures.0,
+  c.list-l.ensures.1,
+)
