@@ -25,7 +25,7 @@ pub record Written (entries : List Finding) (before after : List ℕ) (r : Listi
   pub begins : take (length entries) after ≡ map pack entries
   pub kept : drop (length entries) after ≡ drop (length entries) before
 
--- there are such entries: all that is unmet, in order, and no number twice; and they are written where there is room for them. `Answers.list-only` says that no
+-- there are such entries: all that is unmet, in order, and no number twice; and they are written where there is room for them. `Answers.list_only` says that no
 -- other entries are such
 pub record WholeWay (c : Contents) (before after : List ℕ) (r : Listing) : Type 0 where
   pub entries : List Finding
