@@ -110,9 +110,9 @@ along_start {columns} {list = list} e h r =
     record { kept = kept_same; has = h; row = r; joined = ap (λ (z : Known). join z (known_of (tree_of columns list))) e; passed = λ k s t. inr s }
 
 module _ {columns : List ℕ} {before rows : List (List ℕ)} {all : Known} {list at : ℕ} {m : Node} {p : Parts} (a : Along columns before rows all list at)
-    (is : m ≡ node_of columns at) (Cell_at : p ≡ cell_of m) where
+    (is : m ≡ node_of columns at) (cell_at : p ≡ cell_of m) where
   of : p ≡ parts_of m
-  of = Cell_at ∙ ap cell_of is ∙ cell_is a.has a.row ∙ ap parts_of (sym is)
+  of = cell_at ∙ ap cell_of is ∙ cell_is a.has a.row ∙ ap parts_of (sym is)
 
   here : Cell (tree_of columns) (known_of (tree_of columns at)) p
   here =

@@ -1,5 +1,5 @@
 -- How long an accepted record's list can be, by how many nodes and names the record has:
---     list-bounded    3 entries for each node, one of each name for each node, and one of each name for 28
+--     list_bounded    3 entries for each node, one of each name for each node, and one of each name for 28
 -- The two walks are counted together, since no node has entries of both. An aggregate, a comparison, Not and Since have each free name once at most, an aggregate
 -- one entry more, and every other node, also a binder cell, has 3 at most. Assumes nothing.
 use mathlib.Core.Path.{◌≡◌, refl, ap, ap₂, ◌∙◌}

@@ -1,6 +1,6 @@
 -- Every entry of an accepted record's list fits its number, so the number tells the entry:
---     unpack-pack    an entry that fits is what its number stands for
---     list-fits      all entries of the list fit, and so do those of each part by itself, whatever the seed
+--     unpack_pack    an entry that fits is what its number stands for
+--     list_fits      all entries of the list fit, and so do those of each part by itself, whatever the seed
 -- Assumes nothing.
 use mathlib.Core.Path.{◌≡◌, refl, ap, ◌∙◌}
 use mathlib.Core.List.{◌++◌}

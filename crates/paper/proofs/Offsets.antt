@@ -1,7 +1,7 @@
 -- How far a refusal can be, and how large a place any answer can have:
---     refused-early   bytes that are turned away are so at an offset of at most 6,786: 2 bytes of the format record, 25 for each of 128 names and 7 for
+--     refused_early   bytes that are turned away are so at an offset of at most 6,786: 2 bytes of the format record, 25 for each of 128 names and 7 for
 --                     each of 512 nodes
---     scoping-place, closedness-place, demands-place, arithmetic-place, list-place
+--     scoping_place, closedness_place, demands_place, arithmetic_place, list_place
 --                     the place of an answer, be it an offset, a node, a count or the entries needed, is at most 262,272
 -- Assumes nothing.
 use mathlib.Core.Path.{◌≡◌, refl, sym, ap, ◌∙◌}

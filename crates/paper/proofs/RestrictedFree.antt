@@ -1,5 +1,5 @@
 -- Every restricted name is free (document 01, 'Free and restricted names'):
---     restricted-free    what a condition restricts is free in it
+--     restricted_free    what a condition restricts is free in it
 -- Assumes nothing.
 use mathlib.Core.Path.{◌≡◌, refl, sym, ap, ◌∙◌, subst}
 use mathlib.Core.Bool.{Bool, true, false, not, ◌&&◌, ◌||◌, true≢false}

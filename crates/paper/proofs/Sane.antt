@@ -1,7 +1,7 @@
 -- Every number that stands in an accepted record's tree is the number of a node, and every name one of the table:
---     sane-within    below any bounds that the record keeps to
---     sane-root      below 512, and below the length of the table
---     sane-any       below 512 and 128, whatever the record
+--     sane_within    below any bounds that the record keeps to
+--     sane_root      below 512, and below the length of the table
+--     sane_any       below 512 and 128, whatever the record
 -- Assumes nothing.
 use mathlib.Core.Path.{sym, subst}
 use Prim.Native.Nat.{ℕ, zero, suc, ◌<◌, ◌≤◌}

@@ -1,6 +1,6 @@
 -- "Bits past the table have no effect": two seeds that agree on the names of the table give the same answer.
---     seed-past-the-table    the same part of the list
---     seed-has-no-effect     the same answer to scoping, for any bytes
+--     seed_past_the_table    the same part of the list
+--     seed_has_no_effect     the same answer to scoping, for any bytes
 -- Assumes nothing.
 use mathlib.Core.Path.{◌≡◌, refl, sym, ap, ap₂, ◌∙◌, fun_ext}
 use mathlib.Core.Bool.{Bool, true, false, not, ◌&&◌, ◌||◌}

@@ -1,7 +1,7 @@
 -- The theorem on lists in document order, once for every walk: over what lies below a place and what is broken there.
---     found-exactly    the list that is found from a place holds exactly what is unmet by the path definition, each once, in document order
+--     found_exactly    the list that is found from a place holds exactly what is unmet by the path definition, each once, in document order
 --     found_at         it is what is broken at the place, and then what is found at each place below
---     found-by         so what holds of it can be shown place by place
+--     found_by         so what holds of it can be shown place by place
 -- A walk has only to show that every place below is smaller, and that the rules broken at a place are named in their order. Assumes nothing.
 use mathlib.Core.Path.{◌≡◌, refl, sym, ap, ap₂, ◌∙◌, subst}
 use mathlib.Core.Logic.{inl, inr, ⊎_elim}

@@ -1,6 +1,5 @@
 -- `answer_check` answers with the first entry of the part that the check asks for, for all accepted bytes.
 use mathlib.Core.Path.{refl, ◌∙◌}
-use borrow.Author.Rules.{rules}
 use Rattle.accepted.proofs.AtRoot.{some_root, last_root, part_room, part_told}
 use Rattle.accepted.proofs.answer_check.Goals as goal
 

@@ -1,6 +1,5 @@
 -- `list` answers as the definitions do, and leaves in the buffer what they say, for all accepted bytes and every buffer.
 use mathlib.Core.Path.{refl}
-use borrow.Author.Rules.{rules}
 use Rattle.accepted.proofs.AtRoot.{some_root, counts_small, last_root, list_room, list_most, list_without_room, list_with_room}
 use Rattle.accepted.proofs.list.Goals as goal
 

@@ -2,7 +2,6 @@
 use Prim.Native.Nat.{ℕ, ◌+◌, ◌*◌, ◌≤◌}
 use native.Mathlib.Omega.{arith}
 use native.Mathlib.Nat.{le_trans, mul-le-mul_left, mul-le-mul_right}
-use borrow.Author.Rules.{rules}
 use Rattle.accepted.proofs.most_entries.Goals as goal
 
 few : (names nodes : ℕ) → names ≤ 128 → nodes ≤ 512 → names * (nodes + 1) ≤ 128 * 513

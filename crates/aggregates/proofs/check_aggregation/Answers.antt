@@ -18,12 +18,12 @@ same : (words : Set) (n : NodeNo) (cs : List Cell) {a b c d e f g h : Set} → a
 same words n cs p q r s = rw (p, q, r, s)
 
 -- the five rules over the sets that were made
-five-here : (c : After-minus-untied) →
+five_here : (c : After-minus-untied) →
     let s = c.args in
     gather findings (five (mem s.words) s.n (mem s.summed) (binders_of s.columns.now s.binders.0) (condition_of s.columns.now s.body.0) (mem s.scope))
     ≡ written (mem s.words) s.n (cells (binders_of s.columns.now s.binders.0)) (mem c.minus-unsummed.result)
     (mem c.minus-unknown.result) (mem c.minus-unused.result) (mem c.minus-untied.result)
-five-here c =
+five_here c =
     let own = c.binder_names-own.ensures in
     let inner = c.collect_free-inner.ensures in
     let tied = c.collect_range_restricted-tied.ensures in
@@ -34,7 +34,7 @@ five-here c =
 
 pub returns : goal.returns
 returns c =
-    wrote_is (five-here (goal.at.returns c).After-minus-untied) (wrote_then c.emit_cells-a.ensures (wrote_then c.emit-b.ensures (wrote_then c.emit-c.ensures (wrote_then c.emit_cells-d.ensures c.emit_cells.ensures))))
+    wrote_is (five_here (goal.at.returns c).After-minus-untied) (wrote_then c.emit_cells-a.ensures (wrote_then c.emit-b.ensures (wrote_then c.emit-c.ensures (wrote_then c.emit_cells-d.ensures c.emit_cells.ensures))))
 
 pub binder_names-own-requires : goal.binder_names-own-requires
 binder_names-own-requires c = c.requires.has.0
@@ -46,11 +46,11 @@ pub collect_range_restricted-tied-requires : goal.collect_range_restricted-tied-
 collect_range_restricted-tied-requires c = let s = c.requires.has in (s.1, s.2, s.3)
 
 pub emit_cells-a-requires : goal.emit_cells-a-requires
-emit_cells-a-requires c = record { has = c.requires.has.0; room = room_first _ _ (room_is (five-here (goal.at.emit_cells-a-requires c).After-minus-untied) c.requires.room) }
+emit_cells-a-requires c = record { has = c.requires.has.0; room = room_first _ _ (room_is (five_here (goal.at.emit_cells-a-requires c).After-minus-untied) c.requires.room) }
 
 pub emit-b-requires : goal.emit-b-requires
 emit-b-requires c = room_first _ _ (room_rest _ _ c.emit_cells-a.ensures (omega (arith, c.emit_cells-a.ensures.total))
-    (room_is (five-here (goal.at.emit-b-requires c).After-minus-untied) c.requires.room))
+    (room_is (five_here (goal.at.emit-b-requires c).After-minus-untied) c.requires.room))
 
 pub emit-c-requires : goal.emit-c-requires
 emit-c-requires c = room_first _ _ (room_rest _ _ c.emit-b.ensures (omega (
@@ -61,7 +61,7 @@ emit-c-requires c = room_first _ _ (room_rest _ _ c.emit-b.ensures (omega (
   arith,
   c.emit-b.ensures.total,
   c.emit_cells-a.ensures.total,
-)) (room_is (five-here (goal.at.emit-c-requires c).After-minus-untied) c.requires.room)))
+)) (room_is (five_here (goal.at.emit-c-requires c).After-minus-untied) c.requires.room)))
 
 pub emit_cells-d-requires : goal.emit_cells-d-requires
 emit_cells-d-requires c = record {
@@ -82,7 +82,7 @@ emit_cells-d-requires c = record {
         c.emit-c.ensures.total,
         c.emit-b.ensures.total,
         c.emit_cells-a.ensures.total,
-      )) (room_is (five-here (goal.at.emit_cells-d-requires c).After-minus-untied)
+      )) (room_is (five_here (goal.at.emit_cells-d-requires c).After-minus-untied)
       c.requires.room))));
 }
 
@@ -113,5 +113,5 @@ emit_cells-requires c = record {
     c.emit-c.ensures.total,
     c.emit-b.ensures.total,
     c.emit_cells-a.ensures.total,
-  )) (room_is (five-here (goal.at.emit_cells-requires c).After-minus-untied) c.requires.room))));
+  )) (room_is (five_here (goal.at.emit_cells-requires c).After-minus-untied) c.requires.room))));
 }

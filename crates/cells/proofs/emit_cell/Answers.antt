@@ -16,27 +16,27 @@ use Rattle.writes.proofs.WriteLaws.{wrote_none, wrote_is, room_is}
 use Rattle.cells.proofs.AggregateLaws.{no_cell_entry}
 use Rattle.cells.proofs.emit_cell.Goals as goal
 
-has-name : (rule : ℕ) (s : Set) (n : NodeNo) (x : NameNo) {slot : Slot} → slot ≡ Name x → s x.0 ≡ true
+has_name : (rule : ℕ) (s : Set) (n : NodeNo) (x : NameNo) {slot : Slot} → slot ≡ Name x → s x.0 ≡ true
     → findings (at_cells rule s (cell_of n slot)) ≡ record { rule = rule; node = n; name = Named x } ∷ []
 unfolding findings gather at_cell cell_of
-has-name rule s n x e h = rw (e, h)
+has_name rule s n x e h = rw (e, h)
 
-has-other-name : (rule : ℕ) (s : Set) (n : NodeNo) (x : NameNo) {slot : Slot} → slot ≡ Name x → s x.0 ≡ false
+has_other_name : (rule : ℕ) (s : Set) (n : NodeNo) (x : NameNo) {slot : Slot} → slot ≡ Name x → s x.0 ≡ false
     → findings (at_cells rule s (cell_of n slot)) ≡ []
 unfolding findings gather at_cell cell_of
-has-other-name rule s n x e h = rw (e, h)
+has_other_name rule s n x e h = rw (e, h)
 
 pub returns-then-member : goal.returns-then-member
 returns-then-member c =
-    wrote_is (has-name _ _ _ _ c.in-Name.is (sym c.member.ensures ∙ c.if-member.true)) c.put.ensures
+    wrote_is (has_name _ _ _ _ c.in-Name.is (sym c.member.ensures ∙ c.if-member.true)) c.put.ensures
 
 pub returns-else-member : goal.returns-else-member
 returns-else-member c =
-    wrote_is (has-other-name _ _ _ _ c.in-Name.is (sym c.member.ensures ∙ c.if-member.false)) wrote_none
+    wrote_is (has_other_name _ _ _ _ c.in-Name.is (sym c.member.ensures ∙ c.if-member.false)) wrote_none
 
 pub returns-in_default : goal.returns-in_default
 returns-in_default c =
     wrote_is (no_cell_entry _ _ _ _ (opened c.in_default.in_default-own.keys2)) wrote_none
 
 pub put-requires : goal.put-requires
-put-requires c = room_is (has-name _ _ _ _ c.in-Name.is (sym c.member.ensures ∙ c.if-member.true)) c.requires
+put-requires c = room_is (has_name _ _ _ _ c.in-Name.is (sym c.member.ensures ∙ c.if-member.true)) c.requires

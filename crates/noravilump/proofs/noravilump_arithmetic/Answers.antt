@@ -1,6 +1,5 @@
 -- `noravilump_arithmetic` says the answer in numbers, and its place fits.
 use mathlib.Core.Path.{ap, ◌∙◌}
-use borrow.Author.Rules.{rules}
 use Rattle.paper.specs.declared.Arithmetic.{Arithmetic}
 use Rattle.paper.specs.Questions.{arithmetic_numbers}
 use Rattle.numbers.specs.Numbers.{asked}

@@ -1,6 +1,5 @@
 -- `noravilump_closedness` says the answer in numbers, and its place fits.
 use mathlib.Core.Path.{ap, ◌∙◌}
-use borrow.Author.Rules.{rules}
 use Rattle.paper.specs.declared.Answer.{Answer}
 use Rattle.paper.specs.Questions.{answer_numbers}
 use Rattle.numbers.specs.Numbers.{asked}

@@ -1,6 +1,5 @@
 -- `noravilump_list` says the list's answer in numbers, and leaves the buffer as the list does.
 use mathlib.Core.Path.{ap, ◌∙◌}
-use borrow.Author.Rules.{rules}
 use Rattle.paper.specs.declared.Listing.{Listing}
 use Rattle.paper.specs.Questions.{listing_numbers}
 use Rattle.numbers.specs.Numbers.{asked}

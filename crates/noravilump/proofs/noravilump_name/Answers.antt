@@ -3,7 +3,6 @@ use mathlib.Core.Path.{◌≡◌, sym, ap, ap₂, ◌∙◌}
 use Prim.Native.Nat.{ℕ, zero, suc, ◌+◌, ◌*◌, ◌<◌}
 use native.Mathlib.Omega.{arith}
 use lib.ListN.{length, take, drop}
-use borrow.Author.Rules.{rules}
 use Rattle.noravilump.specs.Stretched.{stretch}
 use Rattle.noravilump.proofs.Stretches.{stretch_known, stretch_unknown, stretch_holds, stretch_empty}
 use Rattle.noravilump.proofs.noravilump_name.Goals as goal

@@ -8,23 +8,23 @@ use Rattle.numbers.specs.declared.Asked.{Asked}
 use Rattle.numbers.specs.Numbers.{asked}
 use Rattle.numbers.proofs.answered.Goals as goal
 
-abbrev in-numbers : Answer → Asked
-in-numbers a = asked (answer_numbers a)
+abbrev in_numbers : Answer → Asked
+in_numbers a = asked (answer_numbers a)
 
 pub returns-in-Accepted : goal.returns-in-Accepted
 unfolding answer_numbers
-returns-in-Accepted c = c.told.ensures ∙ sym (ap in-numbers c.in-Accepted.is)
+returns-in-Accepted c = c.told.ensures ∙ sym (ap in_numbers c.in-Accepted.is)
 
 pub returns-in-Unmet : goal.returns-in-Unmet
 unfolding answer_numbers
 returns-in-Unmet c =
     c.told-in-Unmet.ensures
     ∙ ap₂ (λ (p n : ℕ). record { number = c.in-Unmet.f.rule; place = p; name = n }) c.long.ensures.0 c.name_or_255.ensures
-    ∙ sym (ap in-numbers c.in-Unmet.is)
+    ∙ sym (ap in_numbers c.in-Unmet.is)
 
 pub returns-in-Refused : goal.returns-in-Refused
 unfolding answer_numbers
-returns-in-Refused c = c.told-in-Refused.ensures ∙ sym (ap in-numbers c.in-Refused.is)
+returns-in-Refused c = c.told-in-Refused.ensures ∙ sym (ap in_numbers c.in-Refused.is)
 
 pub told-requires-in-Refused : goal.told-requires-in-Refused
 unfolding answer_numbers

@@ -8,8 +8,8 @@ use Rattle.numbers.specs.declared.Asked.{Asked}
 use Rattle.numbers.specs.Numbers.{asked}
 use Rattle.numbers.proofs.listed.Goals as goal
 
-abbrev in-numbers : Listing → Asked
-in-numbers x = asked (listing_numbers x)
+abbrev in_numbers : Listing → Asked
+in_numbers x = asked (listing_numbers x)
 
 abbrev Fits : Listing → Type 0
 Fits x = (listing_numbers x).place < 4294967296
@@ -28,12 +28,12 @@ told-requires-in-Refused c = subst Fits c.in-Refused.is c.requires
 
 pub returns-in-Listed : goal.returns-in-Listed
 unfolding listing_numbers
-returns-in-Listed c = c.told.ensures ∙ sym (ap in-numbers c.in-Listed.is)
+returns-in-Listed c = c.told.ensures ∙ sym (ap in_numbers c.in-Listed.is)
 
 pub returns-in-NoRoom : goal.returns-in-NoRoom
 unfolding listing_numbers
-returns-in-NoRoom c = c.told-in-NoRoom.ensures ∙ sym (ap in-numbers c.in-NoRoom.is)
+returns-in-NoRoom c = c.told-in-NoRoom.ensures ∙ sym (ap in_numbers c.in-NoRoom.is)
 
 pub returns-in-Refused : goal.returns-in-Refused
 unfolding listing_numbers
-returns-in-Refused c = c.told-in-Refused.ensures ∙ sym (ap in-numbers c.in-Refused.is)
+returns-in-Refused c = c.told-in-Refused.ensures ∙ sym (ap in_numbers c.in-Refused.is)

@@ -8,8 +8,8 @@ use Rattle.numbers.specs.declared.Asked.{Asked}
 use Rattle.numbers.specs.Numbers.{asked}
 use Rattle.numbers.proofs.yes_or_no.Goals as goal
 
-abbrev in-numbers : Arithmetic → Asked
-in-numbers x = asked (arithmetic_numbers x)
+abbrev in_numbers : Arithmetic → Asked
+in_numbers x = asked (arithmetic_numbers x)
 
 abbrev Fits : Arithmetic → Type 0
 Fits x = (arithmetic_numbers x).place < 4294967296
@@ -20,12 +20,12 @@ told-requires-in-Refused c = subst Fits c.in-Refused.is c.requires
 
 pub returns-in-Yes : goal.returns-in-Yes
 unfolding arithmetic_numbers
-returns-in-Yes c = c.told.ensures ∙ sym (ap in-numbers c.in-Yes.is)
+returns-in-Yes c = c.told.ensures ∙ sym (ap in_numbers c.in-Yes.is)
 
 pub returns-in-No : goal.returns-in-No
 unfolding arithmetic_numbers
-returns-in-No c = c.told-in-No.ensures ∙ sym (ap in-numbers c.in-No.is)
+returns-in-No c = c.told-in-No.ensures ∙ sym (ap in_numbers c.in-No.is)
 
 pub returns-in-Refused : goal.returns-in-Refused
 unfolding arithmetic_numbers
-returns-in-Refused c = c.told-in-Refused.ensures ∙ sym (ap in-numbers c.in-Refused.is)
+returns-in-Refused c = c.told-in-Refused.ensures ∙ sym (ap in_numbers c.in-Refused.is)

@@ -9,11 +9,11 @@ use Rattle.paper.specs.Places.{for_names, findings}
 use Rattle.writes.proofs.WriteLaws.{wrote_is, room_is}
 use Rattle.owed.proofs.reject_unmet_var.Goals as goal
 
-abbrev entries-for : ℕ → NodeNo → Set → List Finding
-entries-for rule n s = findings (for_names rule n s)
+abbrev entries_for : ℕ → NodeNo → Set → List Finding
+entries_for rule n s = findings (for_names rule n s)
 
 pub returns : goal.returns
-returns c = wrote_is (ap (entries-for _ _) (sym c.minus-unmet.ensures)) c.emit.ensures
+returns c = wrote_is (ap (entries_for _ _) (sym c.minus-unmet.ensures)) c.emit.ensures
 
 pub emit-requires : goal.emit-requires
-emit-requires c = room_is (ap (entries-for _ _) (sym c.minus-unmet.ensures)) c.requires
+emit-requires c = room_is (ap (entries_for _ _) (sym c.minus-unmet.ensures)) c.requires

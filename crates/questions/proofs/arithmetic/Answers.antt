@@ -1,6 +1,5 @@
 -- `arithmetic` answers as the definitions do, for all bytes.
 use mathlib.Core.Path.{sym, ap, ◌∙◌}
-use borrow.Author.Rules.{rules}
 use Rattle.refusals.specs.Passed.{arithmetic_passed}
 use Rattle.questions.proofs.ByVerdict.{arithmetic_refused, ready}
 use Rattle.questions.proofs.arithmetic.Goals as goal

@@ -1,6 +1,5 @@
 -- `closedness` answers as the definitions do, for all bytes.
 use mathlib.Core.Path.{sym, ap, ◌∙◌}
-use borrow.Author.Rules.{rules}
 use Rattle.paper.specs.Questions.{closedness}
 use Rattle.accepted.specs.Ready.{ReservedFor, part_asked}
 use Rattle.refusals.specs.Passed.{answer_passed}

@@ -1,6 +1,5 @@
 -- `list` answers as the definitions do, and leaves in the buffer what they say, for all bytes and every buffer.
 use mathlib.Core.Path.{sym, ap, ◌∙◌}
-use borrow.Author.Rules.{rules}
 use Rattle.refusals.specs.Passed.{listing_passed}
 use Rattle.questions.proofs.ByVerdict.{list_refused, ready, reserves, counted}
 use Rattle.questions.proofs.list.Goals as goal

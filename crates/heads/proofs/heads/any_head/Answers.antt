@@ -13,13 +13,13 @@ or_left : (a : Bool) → (a || false) ≡ false → a ≡ false
 or_left true e = e
 or_left false e = e
 
-name-room : (names nodes : ℕ) → full_by 2 names nodes ≡ false → names < 128
+name_room : (names nodes : ℕ) → full_by 2 names nodes ≡ false → names < 128
 unfolding full_by
-name-room names nodes e = leb-false 128 names (or_left (leb 128 names) e)
+name_room names nodes e = leb-false 128 names (or_left (leb 128 names) e)
 
-node-room : (names nodes : ℕ) → full_by 3 names nodes ≡ false → nodes < 512
+node_room : (names nodes : ℕ) → full_by 3 names nodes ≡ false → nodes < 512
 unfolding full_by
-node-room names nodes e = leb-false 512 nodes e
+node_room names nodes e = leb-false 512 nodes e
 
 -- what was passed on the way to the last match
 module _ (c : Else-full) where
@@ -61,7 +61,7 @@ returns-in-2 c =
     let e = c.in-2.is in
     record {
       is = simp (in_order (goal.at.returns-in-2 c).Else-full, le-leb _ _ (uncut (goal.at.returns-in-2 c).Else-full), space (goal.at.returns-in-2 c).Else-full, ne_eqb c.args.row.class 1 (λ k. omega arith), eq-eqb _ _ e);
-      allows = (e, uncut (goal.at.returns-in-2 c).Else-full, name-room _ _ (rw e at (space (goal.at.returns-in-2 c).Else-full)));
+      allows = (e, uncut (goal.at.returns-in-2 c).Else-full, name_room _ _ (rw e at (space (goal.at.returns-in-2 c).Else-full)));
     }
 
 pub returns-in-3 : goal.returns-in-3
@@ -70,7 +70,7 @@ returns-in-3 c =
     let e = c.in-3.is in
     record {
       is = simp (in_order (goal.at.returns-in-3 c).Else-full, le-leb _ _ (uncut (goal.at.returns-in-3 c).Else-full), space (goal.at.returns-in-3 c).Else-full, ne_eqb c.args.row.class 1 (λ k. omega arith), ne_eqb c.args.row.class 2 (λ k. omega arith), eq-eqb _ _ e);
-      allows = (e, node-room _ _ (rw e at (space (goal.at.returns-in-3 c).Else-full)));
+      allows = (e, node_room _ _ (rw e at (space (goal.at.returns-in-3 c).Else-full)));
     }
 
 pub returns-in_default : goal.returns-in_default

@@ -5,15 +5,15 @@ use Rattle.paper.specs.Record.{pick}
 use Rattle.paper.specs.Sets.{Set, ◌∖◌}
 use Rattle.places.proofs.binders.unsafe_name.Goals as goal
 
-first-picked : {b : Bool} (x y : Set) → b ≡ true → pick b x y ≡ x
-first-picked x y e = rw e
+first_picked : {b : Bool} (x y : Set) → b ≡ true → pick b x y ≡ x
+first_picked x y e = rw e
 
-second-picked : {b : Bool} (x y : Set) → b ≡ false → pick b x y ≡ y
-second-picked x y e = rw e
+second_picked : {b : Bool} (x y : Set) → b ≡ false → pick b x y ≡ y
+second_picked x y e = rw e
 
 pub returns-then-body_has_sigil : goal.returns-then-body_has_sigil
-returns-then-body_has_sigil c = c.empty.ensures ∙ sym (first-picked _ _ (sym c.body_has_sigil.ensures ∙ c.if-body_has_sigil.true))
+returns-then-body_has_sigil c = c.empty.ensures ∙ sym (first_picked _ _ (sym c.body_has_sigil.ensures ∙ c.if-body_has_sigil.true))
 
 pub returns : goal.returns
 returns c = c.minus.ensures ∙ ap₂ ◌∖◌ c.slot_name-own.ensures c.collect_range_restricted-tied.ensures
-    ∙ sym (second-picked _ _ (sym c.body_has_sigil.ensures ∙ c.if-body_has_sigil.false))
+    ∙ sym (second_picked _ _ (sym c.body_has_sigil.ensures ∙ c.if-body_has_sigil.false))
