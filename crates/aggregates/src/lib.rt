@@ -38,11 +38,11 @@ fn check_aggregation(
     let own = binder_names(columns, binders);
     let inner = collect_free(columns, rows, body);
     let tied = collect_range_restricted(columns, rows, body);
-    let known = names::union(scope, own);
-    let unsummed = names::minus(summed, own);
-    let unknown = names::minus(inner, known);
-    let unused = names::minus(own, inner);
-    let untied = names::minus(own, tied);
+    let known = scope | own;
+    let unsummed = summed - own;
+    let unknown = inner - known;
+    let unused = own - inner;
+    let untied = own - tied;
     let a = emit_cells(columns, binders, 22, words, out, at);
     let b = emit(out, a, 24, n, unsummed);
     let c = emit(out, b, 25, n, unknown);
@@ -73,7 +73,7 @@ pub fn check_agg_expr(
             )
         }
         Node::Count(binders, body) => {
-            let summed = names::empty();
+            let summed = Names::empty();
             check_aggregation(
                 columns, rows, i, summed, binders, body, scope, words, out, at,
             )

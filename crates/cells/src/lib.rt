@@ -20,7 +20,7 @@ fn emit_cell(n: NodeNo, slot: Slot, rule: u8, s: Names, out: &mut [u32], at: usi
 {
     match slot {
         Slot::Name(x) => {
-            if names::member(s, x) {
+            if s.contains(x) {
                 let f = Finding {
                     rule: rule,
                     node: n,
@@ -48,7 +48,7 @@ pub fn emit_cells(
     ensures { Wrote (findings (at_cells rule (mem s) (cells (binders_of columns.now i.0)))) at result out.old out.new }
 {
     // Most often no name is wanted, and then no cell is looked at.
-    if names::is_empty(s) {
+    if s.is_empty() {
         return at;
     }
     match binder_at(columns, i) {

@@ -16,6 +16,7 @@ ghost use Rattle.known.specs.Rows.{meant, node_of, Sound};
 use known::Facts;
 use marks::gathered_marks;
 use memory::{PLACE_0, PLACE_2};
+use names::Names;
 use nodes::{kind_in, lower, number_in, slot_in};
 use paper::{NameNo, NodeNo, Slot};
 use record::access::word_at;
@@ -43,7 +44,7 @@ pub fn leaf_facts(columns: &[u64; 513], i: NodeNo) -> Facts
             timed(own, sigil)
         }
         0x20 => {
-            let own = names::single(NameNo(lower(a)));
+            let own = Names::single(NameNo(lower(a)));
             naming(own)
         }
         0x1B => opaque(),
@@ -61,12 +62,12 @@ fn gathered(columns: &[u64; 513], body: Facts, list: NodeNo, skipped: bool, unsu
     ensures { meant result ≡ gathered_facts (meant body) (binders_of columns.now list.0) skipped unsummed }
 {
     let own = binder_names(columns, list);
-    let free = names::minus(body.free, own);
-    let need = names::minus(body.need, own);
-    let met = names::disjoint(own, body.need);
-    let tied = names::within(own, body.restricted);
-    let closed = names::is_empty(free);
-    let none = names::empty();
+    let free = body.free - own;
+    let need = body.need - own;
+    let met = own.is_disjoint(body.need);
+    let tied = own.is_subset(body.restricted);
+    let closed = free.is_empty();
+    let none = Names::empty();
     let marks = gathered_marks(body.marks, met, skipped, unsummed | !tied, closed);
     Facts {
         free: free,
@@ -83,7 +84,7 @@ fn summed(columns: &[u64; 513], body: Facts, slot: Slot, list: NodeNo) -> Facts
 {
     let own = slot_name(slot);
     let bound = binder_names(columns, list);
-    let summed = names::within(own, bound);
+    let summed = own.is_subset(bound);
     let sigil = is_sigil(slot);
     let skipped = has_sigil_binder(columns, list);
     gathered(columns, body, list, sigil | skipped, !summed)
@@ -106,7 +107,7 @@ pub fn over_facts(columns: &[u64; 513], rows: &[[u64; 7]], i: NodeNo, b: NodeNo)
         }
         0x18 => searched(body, body.restricted),
         0x27 => {
-            let none = names::empty();
+            let none = Names::empty();
             searched(body, none)
         }
         0x29 => {

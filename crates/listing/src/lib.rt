@@ -39,7 +39,7 @@ pub fn check_demands(
     if body_has_sigil(columns, rows, i) {
         return at;
     }
-    let tied = names::empty();
+    let tied = Names::empty();
     check_chain(columns, rows, i, tied, true, out, at)
 }
 
@@ -74,7 +74,7 @@ pub fn write_list(
     requires room { Room (listed (mem words) i (condition_of columns.now i.0)) 0 }
     ensures { Wrote (listed (mem words) i (condition_of columns.now i.0)) 0 result out.old out.new }
 {
-    let scope = names::empty();
+    let scope = Names::empty();
     let p = check_condition(columns, rows, i, scope, words, out, 0);
     let q = check_leaf_closed(columns, rows, i, out, p);
     check_demands(columns, rows, i, out, q)
@@ -89,10 +89,10 @@ pub fn is_quiet(columns: &[u64; 513], rows: &[[u64; 7]], i: NodeNo, check: Check
         Check::Scoping { seed, words } => is_sound(columns, rows, i, words, seed),
         Check::Closedness => {
             let free = collect_free(columns, rows, i);
-            names::is_empty(free)
+            free.is_empty()
         }
         Check::Demands => {
-            let none = names::empty();
+            let none = Names::empty();
             let sigil = body_has_sigil(columns, rows, i);
             let met = is_met(columns, rows, i, none);
             sigil | met
@@ -105,10 +105,10 @@ pub fn is_clean(columns: &[u64; 513], rows: &[[u64; 7]], i: NodeNo, words: Names
     requires { Has columns.now i.0 × Noted columns.now rows.now × (is_condition (tree_of columns.now i.0) ≡ true) }
     ensures { result ≡ clean (mem words) (tree_of columns.now i.0) }
 {
-    let none = names::empty();
+    let none = Names::empty();
     let sound = is_sound(columns, rows, i, words, none);
     let free = collect_free(columns, rows, i);
-    let closed = names::is_empty(free);
+    let closed = free.is_empty();
     let sigil = body_has_sigil(columns, rows, i);
     let met = is_met(columns, rows, i, none);
     (sound & closed) & (sigil | met)

@@ -28,7 +28,7 @@ least_most a (suc n) = go (a zero) (least_most (λ k. a (suc k)) n)
     go false h = omega arith
 
 -- no number below it is in the set
-least_below : (a : Set) (n k : ℕ) → k < least a n → a k ≡ false
+pub least_below : (a : Set) (n k : ℕ) → k < least a n → a k ≡ false
 unfolding least
 least_below a zero k h = absurd (omega arith)
 least_below a (suc n) k h = go (a zero) refl k h (least_below (λ j. a (suc j)) n)
@@ -94,19 +94,27 @@ trailing (suc w) x =
     by_digit (suc zero) t h = refl
     by_digit (suc (suc d)) t h = absurd (omega arith)
 
+-- a word with a bit has a lowest one
+pub some_bit : (w x : ℕ) → x < 2 ^ w → (x ≡ 0 → ⊥) → least (bit x) w < w
+some_bit w x l d = go (dec_lt (least (bit x) w) w)
+  where
+    go : Dec (least (bit x) w < w) → least (bit x) w < w
+    go (yes h) = h
+    go (no h) = absurd (d (no_bit w x l (λ k g. least_below (bit x) w k (omega arith))))
+
+pub no_least : (w : ℕ) → least (bit 0) w ≡ w
+no_least w = least_is (bit 0) w w (omega arith) (λ h. absurd (omega arith)) (λ k h. bit_zero k)
+
 -- ---- of two words
 
 module _ (w low high : ℕ) where
   -- where the low word has a bit
   least_low : low < 2 ^ w → (low ≡ 0 → ⊥) → least (both w low high) (w + w) ≡ least (bit low) w
-  least_low l d = go (dec_lt (least (bit low) w) w)
-    where
-      go : Dec (least (bit low) w < w) → least (both w low high) (w + w) ≡ least (bit low) w
-      go (yes h) =
-          least_is (both w low high) (w + w) (least (bit low) w) (omega arith)
-          (λ g. in_low w low high _ h ∙ least_within (bit low) w h)
-          (λ k g. in_low w low high k (omega arith) ∙ least_below (bit low) w k g)
-      go (no h) = absurd (d (no_bit w low l (λ k g. least_below (bit low) w k (omega arith))))
+  least_low l d =
+      let h = some_bit w low l d in
+      least_is (both w low high) (w + w) (least (bit low) w) (omega arith)
+      (λ g. in_low w low high _ h ∙ least_within (bit low) w h)
+      (λ k g. in_low w low high k (omega arith) ∙ least_below (bit low) w k g)
 
   -- where it has none
   least_high : low ≡ 0 → least (both w low high) (w + w) ≡ w + least (bit high) w

@@ -2,3 +2,4 @@
 pub mod Bits
 pub mod LeastLaws
 pub mod ApartLaws
+pub mod AscendingLaws

@@ -2,3 +2,4 @@
 pub mod Words
 pub mod Least
 pub mod Apart
+pub mod Ascending

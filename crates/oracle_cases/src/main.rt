@@ -7,7 +7,7 @@ mod tally;
 
 ghost use Rattle.std.specs.Prelude.{◌<◌, ◌≤◌, IfOk};
 
-use names::empty;
+use names::Names;
 use octets::tail;
 use paper::{Answer, Arithmetic};
 use questions::{arithmetic, closedness, demands, scoping};
@@ -88,7 +88,7 @@ fn replay<W: Write>(
 ) -> io::Result<Run> {
     let record = stored::record(list);
     let run = tally::next_case(before);
-    let one = hold(out, list, 0, said(scoping(record, empty())), counts, run)?;
+    let one = hold(out, list, 0, said(scoping(record, Names::empty())), counts, run)?;
     let two = hold(
         out,
         list,

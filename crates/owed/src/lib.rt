@@ -32,7 +32,7 @@ fn reject_unmet_var(
     requires { Room (findings (for_names rule n (mem needs ∖ mem tied))) at }
     ensures { Wrote (findings (for_names rule n (mem needs ∖ mem tied))) at result out.old out.new }
 {
-    let unmet = names::minus(needs, tied);
+    let unmet = needs - tied;
     emit(out, at, rule, n, unmet)
 }
 
@@ -48,7 +48,7 @@ fn reject_unmet_sides(
     requires { Room (owed_compared n (mem left) (mem right) (mem tied)) at }
     ensures { Wrote (owed_compared n (mem left) (mem right) (mem tied)) at result out.old out.new }
 {
-    let both = names::union(left, right);
+    let both = left | right;
     reject_unmet_var(n, 31, both, tied, out, at)
 }
 
@@ -105,7 +105,7 @@ fn check_conjunct_demands(
         Owing::Since(l, r) => {
             let needs = collect_free(columns, rows, l);
             let anchored = collect_range_restricted(columns, rows, r);
-            let known = names::union(tied, anchored);
+            let known = tied | anchored;
             reject_unmet_var(i, 32, needs, known, out, at)
         }
         _ => at,
@@ -140,7 +140,7 @@ pub fn tied_first(columns: &[u64; 513], rows: &[[u64; 7]], i: NodeNo, tied: Name
     match owing_at(columns, i) {
         Owing::Since(_, r) => {
             let given = collect_range_restricted(columns, rows, r);
-            names::union(tied, given)
+            tied | given
         }
         Owing::Exists(slot) => without_slot(tied, slot),
         _ => tied,
@@ -155,7 +155,7 @@ pub fn tied_second(columns: &[u64; 513], rows: &[[u64; 7]], i: NodeNo, tied: Nam
     match owing_at(columns, i) {
         Owing::And(l) => {
             let given = collect_range_restricted(columns, rows, l);
-            names::union(tied, given)
+            tied | given
         }
         _ => tied,
     }

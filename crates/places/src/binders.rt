@@ -30,7 +30,7 @@ pub fn reject_reserved_binder(
     ensures { Wrote (findings (for_names 22 n (named slot ∩ mem words))) at result out.old out.new }
 {
     let own = slot_name(slot);
-    let taken = names::common(own, words);
+    let taken = own & words;
     emit(out, at, 22, n, taken)
 }
 
@@ -40,11 +40,11 @@ fn unsafe_name(columns: &[u64; 513], rows: &[[u64; 7]], slot: Slot, body: NodeNo
     ensures { mem result ≡ pick (holds_sigil (condition_of columns.now body.0)) none (named slot ∖ restricted (condition_of columns.now body.0)) }
 {
     if body_has_sigil(columns, rows, body) {
-        return names::empty();
+        return Names::empty();
     }
     let own = slot_name(slot);
     let tied = collect_range_restricted(columns, rows, body);
-    names::minus(own, tied)
+    own - tied
 }
 
 // 22 and then 23 at the binder of an exists: its name is reserved, or its body does not restrict it.

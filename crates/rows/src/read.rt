@@ -52,8 +52,8 @@ pub fn is_met(columns: &[u64; 513], rows: &[[u64; 7]], i: NodeNo, tied: Names) -
 {
     let f = facts_at(rows, i);
     let need = f.need;
-    let unmet = names::minus(need, tied);
-    !(f.marks / HARD % 2 == 1) & names::is_empty(unmet)
+    let unmet = need - tied;
+    !(f.marks / HARD % 2 == 1) & unmet.is_empty()
 }
 
 // Whether no rule of scoping is broken below, with these words reserved and these names in scope.
@@ -69,9 +69,9 @@ pub fn is_sound(
 {
     let f = facts_at(rows, i);
     let free = f.free;
-    let unknown = names::minus(free, scope);
+    let unknown = free - scope;
     let broken = f.marks / BROKEN % 2 == 1;
     let binds = f.marks / BINDS % 2 == 1;
     let unclosed = f.marks / UNCLOSED % 2 == 1;
-    !broken & ((!binds | names::is_empty(words)) & (!unclosed | names::is_empty(unknown)))
+    !broken & ((!binds | words.is_empty()) & (!unclosed | unknown.is_empty()))
 }

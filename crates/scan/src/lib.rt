@@ -39,7 +39,7 @@ pub fn scan_records(bytes: &[u8], starts: &mut [u16; 512]) -> Scanned
     let mut kinds = [0u8; 512];
     let mut depths = [0u8; 512];
     let mut used = [0u8; 512];
-    let mut reserved = names::empty();
+    let mut reserved = Names::empty();
     let mut at: usize = 0;
     let mut begun = false;
     let mut nn: usize = 0;

@@ -40,8 +40,8 @@ pub fn slot_name(slot: Slot) -> Names
     ensures { mem result ≡ named slot }
 {
     match slot {
-        Slot::Name(x) => names::single(x),
-        _ => names::empty(),
+        Slot::Name(x) => Names::single(x),
+        _ => Names::empty(),
     }
 }
 
@@ -51,7 +51,7 @@ pub fn with_slot(others: Names, slot: Slot) -> Names
     ensures { mem result ≡ mem others ∪ named slot }
 {
     let name = slot_name(slot);
-    names::union(others, name)
+    others | name
 }
 
 // The names, without that of a slot.
@@ -60,7 +60,7 @@ pub fn without_slot(others: Names, slot: Slot) -> Names
     ensures { mem result ≡ mem others ∖ named slot }
 {
     let name = slot_name(slot);
-    names::minus(others, name)
+    others - name
 }
 
 // The word of a cell is asked for these two alone: no node is made of it, to be taken apart again.
@@ -98,9 +98,9 @@ pub fn binder_names(columns: &[u64; 513], i: NodeNo) -> Names
         Binder::Cell(slot, rest) => {
             let own = slot_name(slot);
             let others = binder_names(columns, rest);
-            names::union(own, others)
+            own | others
         }
-        Binder::End => names::empty(),
+        Binder::End => Names::empty(),
     }
 }
 
@@ -110,7 +110,7 @@ pub fn with_binders(columns: &[u64; 513], others: Names, i: NodeNo) -> Names
     ensures { mem result ≡ mem others ∪ binder_names (binders_of columns.now i.0) }
 {
     let own = binder_names(columns, i);
-    names::union(others, own)
+    others | own
 }
 
 // The names, without those of an aggregate's binders.
@@ -119,5 +119,5 @@ pub fn without_binders(columns: &[u64; 513], others: Names, i: NodeNo) -> Names
     ensures { mem result ≡ mem others ∖ binder_names (binders_of columns.now i.0) }
 {
     let own = binder_names(columns, i);
-    names::minus(others, own)
+    others - own
 }

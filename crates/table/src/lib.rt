@@ -41,7 +41,7 @@ pub fn reserved_with(reserved: Names, n: [u8; 24], x: usize) -> Names
     ensures { mem result ≡ mem reserved ∪ reserved_as n x }
 {
     if is_reserved(n) {
-        return names::union(reserved, names::single(NameNo((x % 256) as u8)));
+        return reserved | Names::single(NameNo((x % 256) as u8));
     }
     reserved
 }

@@ -18,7 +18,7 @@ use slots::slot_name;
 pub fn nothing() -> Facts
     ensures { meant result ≡ no_facts }
 {
-    let none = names::empty();
+    let none = Names::empty();
     Facts {
         free: none,
         restricted: none,
@@ -31,7 +31,7 @@ pub fn nothing() -> Facts
 pub fn opaque() -> Facts
     ensures { meant result ≡ opaque_facts false }
 {
-    let none = names::empty();
+    let none = Names::empty();
     Facts {
         free: none,
         restricted: none,
@@ -44,7 +44,7 @@ pub fn opaque() -> Facts
 pub fn opaque_aggregate() -> Facts
     ensures { meant result ≡ opaque_facts true }
 {
-    let none = names::empty();
+    let none = Names::empty();
     Facts {
         free: none,
         restricted: none,
@@ -57,7 +57,7 @@ pub fn opaque_aggregate() -> Facts
 pub fn naming(own: Names) -> Facts
     ensures { meant result ≡ named_facts (mem own) false false }
 {
-    let none = names::empty();
+    let none = Names::empty();
     Facts {
         free: own,
         restricted: own,
@@ -70,7 +70,7 @@ pub fn naming(own: Names) -> Facts
 pub fn timed(own: Names, sigil: bool) -> Facts
     ensures { meant result ≡ named_facts (mem own) sigil true }
 {
-    let none = names::empty();
+    let none = Names::empty();
     let marks = mark(sigil, SIGIL);
     Facts {
         free: own,
@@ -84,7 +84,7 @@ pub fn timed(own: Names, sigil: bool) -> Facts
 fn both(one: Facts, other: Facts, given: Names, needs: Names) -> Facts
     ensures { meant result ≡ both_facts (meant one) (meant other) (mem given) (mem needs) }
 {
-    let free = names::union(one.free, other.free);
+    let free = one.free | other.free;
     Facts {
         free: free,
         restricted: given,
@@ -97,8 +97,8 @@ fn both(one: Facts, other: Facts, given: Names, needs: Names) -> Facts
 pub fn join_facts(one: Facts, other: Facts) -> Facts
     ensures { meant result ≡ join (meant one) (meant other) }
 {
-    let given = names::union(one.restricted, other.restricted);
-    let needs = names::union(one.need, other.need);
+    let given = one.restricted | other.restricted;
+    let needs = one.need | other.need;
     both(one, other, given, needs)
 }
 
@@ -106,9 +106,9 @@ pub fn join_facts(one: Facts, other: Facts) -> Facts
 pub fn and_facts(left: Facts, right: Facts) -> Facts
     ensures { meant result ≡ and_known (meant left) (meant right) }
 {
-    let given = names::union(left.restricted, right.restricted);
-    let eased = names::minus(right.need, left.restricted);
-    let needs = names::union(left.need, eased);
+    let given = left.restricted | right.restricted;
+    let eased = right.need - left.restricted;
+    let needs = left.need | eased;
     both(left, right, given, needs)
 }
 
@@ -116,8 +116,8 @@ pub fn and_facts(left: Facts, right: Facts) -> Facts
 pub fn or_facts(left: Facts, right: Facts) -> Facts
     ensures { meant result ≡ or_known (meant left) (meant right) }
 {
-    let given = names::empty();
-    let needs = names::union(left.need, right.need);
+    let given = Names::empty();
+    let needs = left.need | right.need;
     both(left, right, given, needs)
 }
 
@@ -125,9 +125,9 @@ pub fn or_facts(left: Facts, right: Facts) -> Facts
 pub fn arith_facts(left: Facts, right: Facts) -> Facts
     ensures { meant result ≡ arith_known (meant left) (meant right) }
 {
-    let free = names::union(left.free, right.free);
-    let given = names::empty();
-    let needs = names::union(left.need, right.need);
+    let free = left.free | right.free;
+    let given = Names::empty();
+    let needs = left.need | right.need;
     Facts {
         free: free,
         restricted: given,
@@ -140,9 +140,9 @@ pub fn arith_facts(left: Facts, right: Facts) -> Facts
 pub fn since_facts(left: Facts, right: Facts) -> Facts
     ensures { meant result ≡ since_known (meant left) (meant right) }
 {
-    let owed = names::union(left.need, left.free);
-    let eased = names::minus(owed, right.restricted);
-    let needs = names::union(right.need, eased);
+    let owed = left.need | left.free;
+    let eased = owed - right.restricted;
+    let needs = right.need | eased;
     both(left, right, right.restricted, needs)
 }
 
@@ -152,9 +152,9 @@ fn tied_var(side: Equality) -> Names
     ensures { mem result ≡ tied_name side }
 {
     match side {
-        Equality::Left(x) => names::single(x),
-        Equality::Right(x) => names::single(x),
-        Equality::Nothing(_) => names::empty(),
+        Equality::Left(x) => Names::single(x),
+        Equality::Right(x) => Names::single(x),
+        Equality::Nothing(_) => Names::empty(),
     }
 }
 
@@ -165,7 +165,7 @@ fn owed(side: Equality, left: Names, right: Names) -> Names
     match side {
         Equality::Left(_) => right,
         Equality::Right(_) => left,
-        Equality::Nothing(_) => names::union(left, right),
+        Equality::Nothing(_) => left | right,
     }
 }
 
@@ -176,8 +176,8 @@ pub fn equated(side: Equality, left: Facts, right: Facts) -> Facts
 {
     let given = tied_var(side);
     let own = owed(side, left.free, right.free);
-    let below = names::union(left.need, right.need);
-    let needs = names::union(own, below);
+    let below = left.need | right.need;
+    let needs = own | below;
     both(left, right, given, needs)
 }
 
@@ -185,10 +185,10 @@ pub fn equated(side: Equality, left: Facts, right: Facts) -> Facts
 pub fn compared(left: Facts, right: Facts) -> Facts
     ensures { meant result ≡ compared_facts (meant left) (meant right) }
 {
-    let given = names::empty();
-    let all = names::union(left.free, right.free);
-    let deeper = names::union(left.need, right.need);
-    let needs = names::union(all, deeper);
+    let given = Names::empty();
+    let all = left.free | right.free;
+    let deeper = left.need | right.need;
+    let needs = all | deeper;
     both(left, right, given, needs)
 }
 
@@ -197,7 +197,7 @@ pub fn searched(part: Facts, given: Names) -> Facts
     ensures { meant result ≡ searched_facts (meant part) (mem given) }
 {
     let free = part.free;
-    let none = names::empty();
+    let none = Names::empty();
     let marks = searched_marks(part.marks);
     Facts {
         free: free,
@@ -212,8 +212,8 @@ pub fn loose(part: Facts) -> Facts
     ensures { meant result ≡ loose_facts (meant part) }
 {
     let free = part.free;
-    let none = names::empty();
-    let needs = names::union(part.need, part.free);
+    let none = Names::empty();
+    let needs = part.need | part.free;
     Facts {
         free: free,
         restricted: none,
@@ -226,8 +226,8 @@ pub fn loose(part: Facts) -> Facts
 pub fn refined(base: Facts, fields: Facts) -> Facts
     ensures { meant result ≡ refined_facts (meant base) (meant fields) }
 {
-    let free = names::union(base.free, fields.free);
-    let restricted = names::union(base.restricted, fields.restricted);
+    let free = base.free | fields.free;
+    let restricted = base.restricted | fields.restricted;
     let need = base.need;
     Facts {
         free: free,
@@ -243,11 +243,11 @@ pub fn bound(body: Facts, slot: Slot) -> Facts
     ensures { meant result ≡ bound_facts (meant body) slot }
 {
     let own = slot_name(slot);
-    let free = names::minus(body.free, own);
-    let restricted = names::minus(body.restricted, own);
-    let need = names::minus(body.need, own);
-    let met = names::disjoint(own, body.need);
-    let tied = names::within(own, body.restricted);
+    let free = body.free - own;
+    let restricted = body.restricted - own;
+    let need = body.need - own;
+    let met = own.is_disjoint(body.need);
+    let tied = own.is_subset(body.restricted);
     let marks = bound_marks(body.marks, met, tied);
     Facts {
         free: free,

@@ -61,22 +61,19 @@ pub fn put(out: &mut [u32], at: usize, f: Finding) -> usize
     at + 1
 }
 
-// The entries of a rule at a node for each name of a set, ascending: a step for each name, the least of those that are left.
+// The entries of a rule at a node for each name of a set, ascending.
 pub fn emit(out: &mut [u32], at: usize, rule: u8, n: NodeNo, s: Names) -> usize
     requires { Room (findings (for_names rule n (mem s))) at }
     ensures { Wrote (findings (for_names rule n (mem s))) at result out.old out.new }
 {
     let mut p = at;
-    let mut left = s;
-    while !names::is_empty(left) {
-        let x = names::least(left);
+    for x in s {
         let f = Finding {
             rule: rule,
             node: n,
             name: Subject::Name(x),
         };
         p = put(out, p, f);
-        left = names::without(left, x);
     }
     p
 }

@@ -28,15 +28,15 @@ has_other_name rule s n x e h = rw (e, h)
 
 pub returns-then-member : goal.returns-then-member
 returns-then-member c =
-    wrote_is (has_name _ _ _ _ c.in-Name.is (sym c.member.ensures ∙ c.if-member.true)) c.put.ensures
+    wrote_is (has_name _ _ _ _ c.in-Name.is (sym c.contains.ensures ∙ c.if-contains.true)) c.put.ensures
 
 pub returns-else-member : goal.returns-else-member
 returns-else-member c =
-    wrote_is (has_other_name _ _ _ _ c.in-Name.is (sym c.member.ensures ∙ c.if-member.false)) wrote_none
+    wrote_is (has_other_name _ _ _ _ c.in-Name.is (sym c.contains.ensures ∙ c.if-contains.false)) wrote_none
 
 pub returns-in_default : goal.returns-in_default
 returns-in_default c =
     wrote_is (no_cell_entry _ _ _ _ (opened c.in_default.in_default-own.keys2)) wrote_none
 
 pub put-requires : goal.put-requires
-put-requires c = room_is (has_name _ _ _ _ c.in-Name.is (sym c.member.ensures ∙ c.if-member.true)) c.requires
+put-requires c = room_is (has_name _ _ _ _ c.in-Name.is (sym c.contains.ensures ∙ c.if-contains.true)) c.requires

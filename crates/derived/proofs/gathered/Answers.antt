@@ -24,12 +24,12 @@ returns c =
       m.bindings,
       m.unclosings,
       m.computings,
-      binder_said list _ (subst (λ (a : Set). Apart c.disjoint-met.result a (mem s.body.need)) names c.disjoint-met.ensures),
-      binder_said list _ (subst (λ (a : Set). Apart c.within-tied.result a (outside (mem s.body.restricted))) names c.within-tied.ensures),
+      binder_said list _ (subst (λ (a : Set). Apart c.is_disjoint-met.result a (mem s.body.need)) names c.is_disjoint-met.ensures),
+      binder_said list _ (subst (λ (a : Set). Apart c.is_subset-tied.result a (outside (mem s.body.restricted))) names c.is_subset-tied.ensures),
       c.is_empty-closed.ensures,
       c.empty-none.ensures,
-      c.minus-need.ensures,
-      c.minus-free.ensures,
+      c.sub-need.ensures,
+      c.sub-free.ensures,
       names,
     )
 

@@ -18,8 +18,8 @@ returns c =
     c.gathered.ensures
     ∙ ap₂ (λ (a b : Bool). gathered (meant s.body) list a b) (ap₂ ◌||◌ c.is_sigil-sigil.ensures c.has_sigil_binder-skipped.ensures)
     (slot_said s.slot (outside (binder_names list))
-    (subst (λ (a : Set). Apart c.within-summed.result a (outside (binder_names list))) c.slot_name-own.ensures
-    (subst (λ (a : Set). Apart c.within-summed.result (mem c.slot_name-own.result) (outside a)) c.binder_names-bound.ensures c.within-summed.ensures)))
+    (subst (λ (a : Set). Apart c.is_subset-summed.result a (outside (binder_names list))) c.slot_name-own.ensures
+    (subst (λ (a : Set). Apart c.is_subset-summed.result (mem c.slot_name-own.result) (outside a)) c.binder_names-bound.ensures c.is_subset-summed.ensures)))
 
 pub slot_name-own-requires : goal.slot_name-own-requires
 slot_name-own-requires c = c.requires.1

@@ -27,7 +27,7 @@ returns-in-Not c =
 
 pub returns-in-Since : goal.returns-in-Since
 returns-in-Since c =
-    wrote_is (owed_since _ (told (goal.at.returns-in-Since c).After-owing_at c.in-Since.is).1 c.collect_free-needs-in-Since.ensures (c.union-known.ensures ∙ ap₂ ◌∪◌ refl c.collect_range_restricted-anchored.ensures)) c.reject_unmet_var-in-Since.ensures
+    wrote_is (owed_since _ (told (goal.at.returns-in-Since c).After-owing_at c.in-Since.is).1 c.collect_free-needs-in-Since.ensures (c.bitor-known.ensures ∙ ap₂ ◌∪◌ refl c.collect_range_restricted-anchored.ensures)) c.reject_unmet_var-in-Since.ensures
 
 pub returns-in_default : goal.returns-in_default
 returns-in_default c =
@@ -70,4 +70,4 @@ pub collect_range_restricted-anchored-requires : goal.collect_range_restricted-a
 collect_range_restricted-anchored-requires c = body_row (told (goal.at.collect_range_restricted-anchored-requires c).After-owing_at c.in-Since.is).1.children.1.0 c.requires.has.1
 
 pub reject_unmet_var-requires-in-Since : goal.reject_unmet_var-requires-in-Since
-reject_unmet_var-requires-in-Since c = room_is (owed_since _ (told (goal.at.reject_unmet_var-requires-in-Since c).After-owing_at c.in-Since.is).1 c.collect_free-needs-in-Since.ensures (c.union-known.ensures ∙ ap₂ ◌∪◌ refl c.collect_range_restricted-anchored.ensures)) c.requires.room
+reject_unmet_var-requires-in-Since c = room_is (owed_since _ (told (goal.at.reject_unmet_var-requires-in-Since c).After-owing_at c.in-Since.is).1 c.collect_free-needs-in-Since.ensures (c.bitor-known.ensures ∙ ap₂ ◌∪◌ refl c.collect_range_restricted-anchored.ensures)) c.requires.room

@@ -4,7 +4,7 @@ use Rattle.owed.proofs.DemandLaws.{compared_sides}
 use Rattle.owed.proofs.reject_unmet_sides.Goals as goal
 
 pub returns : goal.returns
-returns c = wrote_is (compared_sides _ _ _ _ c.union-both.ensures) c.reject_unmet_var.ensures
+returns c = wrote_is (compared_sides _ _ _ _ c.bitor-both.ensures) c.reject_unmet_var.ensures
 
 pub reject_unmet_var-requires : goal.reject_unmet_var-requires
-reject_unmet_var-requires c = room_is (compared_sides _ _ _ _ c.union-both.ensures) c.requires
+reject_unmet_var-requires c = room_is (compared_sides _ _ _ _ c.bitor-both.ensures) c.requires

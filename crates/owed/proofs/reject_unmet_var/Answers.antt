@@ -13,7 +13,7 @@ abbrev entries_for : ℕ → NodeNo → Set → List Finding
 entries_for rule n s = findings (for_names rule n s)
 
 pub returns : goal.returns
-returns c = wrote_is (ap (entries_for _ _) (sym c.minus-unmet.ensures)) c.emit.ensures
+returns c = wrote_is (ap (entries_for _ _) (sym c.sub-unmet.ensures)) c.emit.ensures
 
 pub emit-requires : goal.emit-requires
-emit-requires c = room_is (ap (entries_for _ _) (sym c.minus-unmet.ensures)) c.requires
+emit-requires c = room_is (ap (entries_for _ _) (sym c.sub-unmet.ensures)) c.requires

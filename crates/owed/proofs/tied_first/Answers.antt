@@ -22,7 +22,7 @@ pub without_slot-requires : goal.without_slot-requires
 without_slot-requires c = slot_tabled c.in-Exists.slot (told (goal.at.without_slot-requires c).After-owing_at c.in-Exists.is).2.tabled
 
 pub returns-in-Since : goal.returns-in-Since
-returns-in-Since c = first_since _ (told (goal.at.returns-in-Since c).After-owing_at c.in-Since.is).1 c.collect_range_restricted-given.ensures c.union.ensures
+returns-in-Since c = first_since _ (told (goal.at.returns-in-Since c).After-owing_at c.in-Since.is).1 c.collect_range_restricted-given.ensures c.bitor.ensures
 
 pub returns-in-Exists : goal.returns-in-Exists
 returns-in-Exists c = first_exists _ (told (goal.at.returns-in-Exists c).After-owing_at c.in-Exists.is).2 c.without_slot.ensures

@@ -18,7 +18,7 @@ pub collect_range_restricted-given-requires : goal.collect_range_restricted-give
 collect_range_restricted-given-requires c = body_row (told (goal.at.collect_range_restricted-given-requires c).After-owing_at c.in-And.is).1.children.0 c.requires.1
 
 pub returns-in-And : goal.returns-in-And
-returns-in-And c = second_and _ (told (goal.at.returns-in-And c).After-owing_at c.in-And.is).1 c.collect_range_restricted-given.ensures c.union.ensures
+returns-in-And c = second_and _ (told (goal.at.returns-in-And c).After-owing_at c.in-And.is).1 c.collect_range_restricted-given.ensures c.bitor.ensures
 
 pub returns-in_default : goal.returns-in_default
 returns-in_default c = second_same c.owing_at.ensures (held_arm c.requires.0) _ (opened c.in_default.in_default-own.keys2)

@@ -14,7 +14,7 @@ binder_names-others-requires t c = down (cell_arm c.requires c.in-Cell.ensures r
 
 pub returns-in-Cell : goal.returns-in-Cell
 returns-in-Cell t c =
-    c.union.ensures ∙ ap₂ ◌∪◌ c.slot_name-own.ensures c.binder_names-others.ensures
+    c.bitor.ensures ∙ ap₂ ◌∪◌ c.slot_name-own.ensures c.binder_names-others.ensures
     ∙ sym (binders_cell (cell_arm c.requires c.in-Cell.ensures refl).1)
 
 pub returns-in-End : goal.returns-in-End

@@ -4,4 +4,4 @@ use Rattle.paper.specs.Sets.{◌∪◌}
 use Rattle.slots.proofs.with_binders.Goals as goal
 
 pub returns : goal.returns
-returns c = c.union.ensures ∙ ap₂ ◌∪◌ refl c.binder_names-own.ensures
+returns c = c.bitor.ensures ∙ ap₂ ◌∪◌ refl c.binder_names-own.ensures

@@ -4,4 +4,4 @@ use Rattle.paper.specs.Sets.{◌∪◌}
 use Rattle.slots.proofs.with_slot.Goals as goal
 
 pub returns : goal.returns
-returns c = c.union.ensures ∙ ap₂ ◌∪◌ refl c.slot_name-name.ensures
+returns c = c.bitor.ensures ∙ ap₂ ◌∪◌ refl c.slot_name-name.ensures

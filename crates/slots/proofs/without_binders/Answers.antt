@@ -4,4 +4,4 @@ use Rattle.paper.specs.Sets.{◌∖◌}
 use Rattle.slots.proofs.without_binders.Goals as goal
 
 pub returns : goal.returns
-returns c = c.minus.ensures ∙ ap₂ ◌∖◌ refl c.binder_names-own.ensures
+returns c = c.sub.ensures ∙ ap₂ ◌∖◌ refl c.binder_names-own.ensures

@@ -4,4 +4,4 @@ use Rattle.paper.specs.Sets.{◌∖◌}
 use Rattle.slots.proofs.without_slot.Goals as goal
 
 pub returns : goal.returns
-returns c = c.minus.ensures ∙ ap₂ ◌∖◌ refl c.slot_name-name.ensures
+returns c = c.sub.ensures ∙ ap₂ ◌∖◌ refl c.slot_name-name.ensures

@@ -9,7 +9,7 @@ use Rattle.memory.proofs.NameLaws.{reserved_yes, reserved_no}
 use Rattle.table.proofs.reserved_with.Goals as goal
 
 pub returns-then-is_reserved : goal.returns-then-is_reserved
-returns-then-is_reserved c = let e : c.args.x % 256 ≡ c.args.x = mod-eq_of_lt (omega arith) in c.union.ensures ∙ ap (λ (s : Set). mem c.args.reserved ∪ s) (c.single.ensures ∙ ap only e ∙ reserved_yes _ _ (sym c.is_reserved.ensures ∙ c.if-is_reserved.true))
+returns-then-is_reserved c = let e : c.args.x % 256 ≡ c.args.x = mod-eq_of_lt (omega arith) in c.bitor.ensures ∙ ap (λ (s : Set). mem c.args.reserved ∪ s) (c.single.ensures ∙ ap only e ∙ reserved_yes _ _ (sym c.is_reserved.ensures ∙ c.if-is_reserved.true))
 
 pub returns : goal.returns
 returns c = reserved_no _ _ _ (sym c.is_reserved.ensures ∙ c.if-is_reserved.false)

@@ -16,9 +16,9 @@ returns c =
     let n = s.right.marks in
     let o = bit_or m n in
     rw (
-      c.union-needs.ensures,
+      c.bitor-needs.ensures,
       c.empty-given.ensures,
-      c.union-free.ensures,
+      c.bitor-free.ensures,
       kept o 32 0 refl ∙ bit_of_or m n 0,
       kept o 32 1 refl ∙ bit_of_or m n 1,
       kept o 32 2 refl ∙ bit_of_or m n 2,

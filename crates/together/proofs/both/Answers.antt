@@ -10,4 +10,4 @@ returns c =
     let s = c.args in
     let m = s.one.marks in
     let n = s.other.marks in
-    rw (c.union-free.ensures, bit_of_or m n 0, bit_of_or m n 1, bit_of_or m n 2, bit_of_or m n 3, bit_of_or m n 4, bit_of_or m n 5)
+    rw (c.bitor-free.ensures, bit_of_or m n 0, bit_of_or m n 1, bit_of_or m n 2, bit_of_or m n 3, bit_of_or m n 4, bit_of_or m n 5)

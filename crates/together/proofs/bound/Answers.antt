@@ -21,11 +21,11 @@ returns c =
       m.bindings,
       m.unclosings,
       m.computings,
-      slot_said s.slot _ (subst (λ (a : Set). Apart c.disjoint-met.result a (mem s.body.need)) name c.disjoint-met.ensures),
-      slot_said s.slot _ (subst (λ (a : Set). Apart c.within-tied.result a (outside (mem s.body.restricted))) name c.within-tied.ensures),
-      c.minus-need.ensures,
-      c.minus-restricted.ensures,
-      c.minus-free.ensures,
+      slot_said s.slot _ (subst (λ (a : Set). Apart c.is_disjoint-met.result a (mem s.body.need)) name c.is_disjoint-met.ensures),
+      slot_said s.slot _ (subst (λ (a : Set). Apart c.is_subset-tied.result a (outside (mem s.body.restricted))) name c.is_subset-tied.ensures),
+      c.sub-need.ensures,
+      c.sub-restricted.ensures,
+      c.sub-free.ensures,
       name,
     )
 

@@ -6,4 +6,4 @@ use Rattle.together.proofs.compared.Goals as goal
 
 pub returns : goal.returns
 unfolding meant compared
-returns c = c.both.ensures ∙ rw (c.union-needs.ensures, c.union-deeper.ensures, c.union-all.ensures, c.empty-given.ensures)
+returns c = c.both.ensures ∙ rw (c.bitor-needs.ensures, c.bitor-deeper.ensures, c.bitor-all.ensures, c.empty-given.ensures)

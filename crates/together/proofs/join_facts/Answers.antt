@@ -6,4 +6,4 @@ use Rattle.together.proofs.join_facts.Goals as goal
 
 pub returns : goal.returns
 unfolding meant join
-returns c = c.both.ensures ∙ rw (c.union-needs.ensures, c.union-given.ensures)
+returns c = c.both.ensures ∙ rw (c.bitor-needs.ensures, c.bitor-given.ensures)

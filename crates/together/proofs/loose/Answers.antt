@@ -5,4 +5,4 @@ use Rattle.together.proofs.loose.Goals as goal
 
 pub returns : goal.returns
 unfolding meant loose
-returns c = rw (c.union-needs.ensures, c.empty-none.ensures)
+returns c = rw (c.bitor-needs.ensures, c.empty-none.ensures)

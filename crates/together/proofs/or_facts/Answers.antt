@@ -6,4 +6,4 @@ use Rattle.together.proofs.or_facts.Goals as goal
 
 pub returns : goal.returns
 unfolding meant or_known
-returns c = c.both.ensures ∙ rw (c.union-needs.ensures, c.empty-given.ensures)
+returns c = c.both.ensures ∙ rw (c.bitor-needs.ensures, c.empty-given.ensures)

@@ -13,4 +13,4 @@ returns-in-Right c = rw c.in-Right.is
 
 pub returns-in-Nothing : goal.returns-in-Nothing
 unfolding owes
-returns-in-Nothing c = c.union.ensures ∙ rw c.in-Nothing.is
+returns-in-Nothing c = c.bitor.ensures ∙ rw c.in-Nothing.is

@@ -17,8 +17,8 @@ returns c =
     let n = s.fields.marks in
     let o = bit_and n 1 in
     rw (
-      c.union-restricted.ensures,
-      c.union-free.ensures,
+      c.bitor-restricted.ensures,
+      c.bitor-free.ensures,
       bit_of_or m o 0 ∙ ap (◌||◌ (bit m 0)) (masked n 1 0 refl),
       kept m o 1 (cleared n 1 1 refl),
       kept m o 2 (cleared n 1 2 refl),

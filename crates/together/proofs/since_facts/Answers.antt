@@ -6,4 +6,4 @@ use Rattle.together.proofs.since_facts.Goals as goal
 
 pub returns : goal.returns
 unfolding meant since_known
-returns c = c.both.ensures ∙ rw (c.union-needs.ensures, c.minus-eased.ensures, c.union-owed.ensures)
+returns c = c.both.ensures ∙ rw (c.bitor-needs.ensures, c.sub-eased.ensures, c.bitor-owed.ensures)

@@ -1,68 +1,25 @@
 -- `emit` writes the entries for the names of a set, ascending: the entries written so far and those of the names that are left are all.
-use mathlib.Core.Path.{◌≡◌, refl, sym, ap, ◌∙◌}
-use mathlib.Core.Bool.{false}
-use mathlib.Core.List.{List, [], ◌∷◌, ◌++◌, append-nil, append_assoc}
-use Prim.Native.Nat.{ℕ}
-use native.Mathlib.Nat.{le_of_eq}
-use native.Mathlib.Omega.{arith}
-use lib.ListN.{length}
-use Rattle.paper.specs.declared.NodeNo.{NodeNo}
-use Rattle.paper.specs.declared.Finding.{Finding}
-use Rattle.paper.specs.Sets.{outside, all_below}
-use Rattle.paper.specs.Places.{for_names, findings}
+use mathlib.Core.Path.{sym, ap, ◌∙◌}
+use mathlib.Core.List.{List, [], ◌∷◌, ◌++◌, append_assoc}
+use Rattle.paper.specs.declared.NameNo.{NameNo}
 use Rattle.names.specs.declared.Names.{Names}
 use Rattle.names.specs.Words.{mem}
-use Rattle.names.proofs.LeastLaws.{some_least}
-use Rattle.writes.proofs.WriteLaws.{wrote_none, wrote_then, wrote_is, wrote_length, room_is, room_first, room_rest}
-use Rattle.writes.proofs.NameLaws.{made, no_names, next_name}
+use Rattle.names.specs.Ascending.{ascending}
+use Rattle.writes.proofs.WriteLaws.{wrote_none, wrote_then}
+use Rattle.writes.proofs.NameLaws.{for_each, for_ascending}
 use Rattle.writes.proofs.emit.Goals as goal
-use Rattle.writes.proofs.emit.Goals.{In-loop-n, After-without-left}
 
-abbrev entries_of : ℕ → NodeNo → Names → List Finding
-entries_of rule n s = findings (for_names rule n (mem s))
+pub loop-x-init : goal.loop-x-init
+loop-x-init c = (
+  [],
+  for_ascending _ _ _ ∙ ap (λ (s : Names). for_each c.args.rule c.args.n (ascending (mem s))) (sym c.into_iter-x-iterator.ensures.into_iter_gives),
+  wrote_none,
+)
 
-some_left : (c : In-loop-n) → all_below 128 (outside (mem c.loop-n.left)) ≡ false
-some_left c = sym c.is_empty.ensures ∙ c.loop-n-test.true
-
--- what was left is the entry that is written and what is left now
-step : (c : After-without-left) (rule : ℕ) (n : NodeNo)
-    → entries_of rule n c.loop-n.left
-    ≡ made rule n c.least-x.result.0 ∷ entries_of rule n c.without-left.result
-step c rule n =
-    next_name rule n _ ((sym c.is_empty.ensures ∙ c.loop-n-test.true)) c.least-x.ensures c.without-left.ensures
-
-pub loop-n-init : goal.loop-n-init
-loop-n-init c = ([], refl, wrote_none)
-
-pub put-p-requires : goal.put-p-requires
-put-p-requires c =
-    let i = c.loop-n.invariant in
-    let t = i.2.total in
-    let room = room_is i.1 c.requires in
-    room_first _ _ (room_is (next_name _ _ _ (some_left (goal.at.put-p-requires c).In-loop-n) c.least-x.ensures refl) (room_rest i.0 _ i.2 (omega arith) room))
-
-pub without-left-requires : goal.without-left-requires
-without-left-requires c =
-    let h = some_least _ 128 (some_left (goal.at.without-left-requires c).In-loop-n) in
-    let e = c.least-x.ensures in
-    omega arith
-
-pub loop-n-smaller : goal.loop-n-smaller
-loop-n-smaller c = le_of_eq (sym (ap (λ (l : List Finding). length l) (step (goal.at.loop-n-smaller c).After-without-left _ _)))
-
-pub loop-n-preserved : goal.loop-n-preserved
-loop-n-preserved c =
-    let i = c.loop-n.invariant in (
-      i.0 ++ (made _ _ _ ∷ []),
-      i.1 ∙ ap (λ (l : List Finding). i.0 ++ l) (step (goal.at.loop-n-preserved c).After-without-left _ _) ∙ sym (append_assoc i.0 (_ ∷ []) _),
+pub loop-x-preserved : goal.loop-x-preserved
+loop-x-preserved c =
+    let i = c.loop-x.invariant in (
+      i.0 ++ _ ∷ [],
+      i.1 ∙ ap (λ (l : List NameNo). i.0 ++ for_each c.args.rule c.args.n l) c.in-Some.ensures.steps ∙ sym (append_assoc i.0 (_ ∷ []) _),
       wrote_then i.2 c.put-p.ensures,
     )
-
-pub returns : goal.returns
-returns c =
-    let i = c.loop-n.invariant in
-    let all = i.1 ∙ ap (λ (l : List Finding). i.0 ++ l) (no_names _ _ _ (sym c.is_empty.ensures ∙ c.loop-n-test.false)) ∙ append-nil i.0 in
-    wrote_is all i.2
-
-pub shape_of-out : goal.shape_of-out
-shape_of-out c = wrote_length (returns c)

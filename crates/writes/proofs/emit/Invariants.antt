@@ -1,21 +1,13 @@
 -- `emit` writes the entries for the names of a set, ascending: the entries written so far and those of the names that are left are all.
-use mathlib.Core.Path.{◌≡◌}
-use mathlib.Core.List.{List, ◌++◌}
-use Prim.Native.Nat.{ℕ}
-use lib.ListN.{length}
-use Rattle.paper.specs.declared.NodeNo.{NodeNo}
+use Rattle.std.proofs.Common.{◌≡◌, List, ◌++◌}
 use Rattle.paper.specs.declared.Finding.{Finding}
 use Rattle.paper.specs.Places.{for_names, findings}
-use Rattle.names.specs.declared.Names.{Names}
 use Rattle.names.specs.Words.{mem}
+use Rattle.names.specs.Ascending.{ascending}
 use Rattle.writes.specs.Written.{Wrote}
+use Rattle.writes.proofs.NameLaws.{for_each}
 use Rattle.writes.proofs.emit.Given as goal
 
-abbrev entries_of : ℕ → NodeNo → Names → List Finding
-entries_of rule n s = findings (for_names rule n (mem s))
-
-abbrev pub invariant-loop-n : goal.invariant-loop-n
-invariant-loop-n l = (done : List Finding) × (entries_of l.rule l.n l.fn.s ≡ done ++ entries_of l.rule l.n l.left) × Wrote done l.at l.p l.initial.out l.out
-
-abbrev pub decreases-loop-n : goal.decreases-loop-n
-decreases-loop-n l = length (entries_of l.rule l.n l.left)
+abbrev pub invariant-loop-x : goal.invariant-loop-x
+invariant-loop-x l =
+    (done : List Finding) × (findings (for_names l.rule l.n (mem l.fn.s)) ≡ done ++ for_each l.rule l.n (ascending (mem l.x-iterator.left))) × Wrote done l.at l.p l.initial.out l.out

@@ -6,10 +6,10 @@ use Rattle.places.proofs.binders.reject_reserved_binder.Goals as goal
 
 pub returns : goal.returns
 returns c =
-    wrote_is (for_same _ _ (c.common-taken.ensures ∙ ap₂ ◌∩◌ c.slot_name-own.ensures refl)) c.emit.ensures
+    wrote_is (for_same _ _ (c.bitand-taken.ensures ∙ ap₂ ◌∩◌ c.slot_name-own.ensures refl)) c.emit.ensures
 
 pub slot_name-own-requires : goal.slot_name-own-requires
 slot_name-own-requires c = c.requires.tabled
 
 pub emit-requires : goal.emit-requires
-emit-requires c = room_is (for_same _ _ (c.common-taken.ensures ∙ ap₂ ◌∩◌ c.slot_name-own.ensures refl)) c.requires.room
+emit-requires c = room_is (for_same _ _ (c.bitand-taken.ensures ∙ ap₂ ◌∩◌ c.slot_name-own.ensures refl)) c.requires.room

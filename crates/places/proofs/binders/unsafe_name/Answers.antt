@@ -15,5 +15,5 @@ pub returns-then-body_has_sigil : goal.returns-then-body_has_sigil
 returns-then-body_has_sigil c = c.empty.ensures ∙ sym (first_picked _ _ (sym c.body_has_sigil.ensures ∙ c.if-body_has_sigil.true))
 
 pub returns : goal.returns
-returns c = c.minus.ensures ∙ ap₂ ◌∖◌ c.slot_name-own.ensures c.collect_range_restricted-tied.ensures
+returns c = c.sub.ensures ∙ ap₂ ◌∖◌ c.slot_name-own.ensures c.collect_range_restricted-tied.ensures
     ∙ sym (second_picked _ _ (sym c.body_has_sigil.ensures ∙ c.if-body_has_sigil.false))

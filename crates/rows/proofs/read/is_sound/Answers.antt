@@ -14,7 +14,7 @@ unfolding sound has_none meant bit
 returns c =
     let f = c.facts_at-f.result in
     ap₂ (λ (a b : Bool). not (bit f.marks 2) && ((not (bit f.marks 3) || a) && (not (bit f.marks 4) || b))) c.is_empty.ensures
-    (c.is_empty-2.ensures ∙ ap has_none c.minus-unknown.ensures)
+    (c.is_empty-2.ensures ∙ ap has_none c.sub-unknown.ensures)
     ∙ ap (λ (k : Known). sound k.broken k.binds k.unclosed k.free (mem c.args.words) (mem c.args.scope))
     (noted c.requires.1 c.requires.0 c.requires.2 c.facts_at-f.ensures)
 

@@ -1,6 +1,6 @@
 use Rattle.names.proofs.Bits.{has_low, has_high, mem_past}
 use borrow.Author.Rules.{rules}
-use Rattle.names.proofs.member.Goals as goal
+use Rattle.names.proofs.Names.contains.Goals as goal
 
 pub returns-then-k-lt64 : goal.returns-then-k-lt64
 returns-then-k-lt64 c = has_low _ _ (search rules)

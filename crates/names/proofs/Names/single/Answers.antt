@@ -1,6 +1,6 @@
 use Rattle.names.proofs.Bits.{mem_low, mem_high}
 use borrow.Author.Rules.{rules}
-use Rattle.names.proofs.single.Goals as goal
+use Rattle.names.proofs.Names.single.Goals as goal
 
 pub returns-then-k-lt64 : goal.returns-then-k-lt64
 returns-then-k-lt64 c = mem_low _ (search rules)
