@@ -26,12 +26,12 @@ has_other_name : (rule : ℕ) (s : Set) (n : NodeNo) (x : NameNo) {slot : Slot} 
 unfolding findings gather at_cell cell_of
 has_other_name rule s n x e h = rw (e, h)
 
-pub returns-then-member : goal.returns-then-member
-returns-then-member c =
+pub returns-then-contains : goal.returns-then-contains
+returns-then-contains c =
     wrote_is (has_name _ _ _ _ c.in-Name.is (sym c.contains.ensures ∙ c.if-contains.true)) c.put.ensures
 
-pub returns-else-member : goal.returns-else-member
-returns-else-member c =
+pub returns-else-contains : goal.returns-else-contains
+returns-else-contains c =
     wrote_is (has_other_name _ _ _ _ c.in-Name.is (sym c.contains.ensures ∙ c.if-contains.false)) wrote_none
 
 pub returns-in_default : goal.returns-in_default
