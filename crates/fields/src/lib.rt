@@ -6,7 +6,7 @@ ghost use Rattle.memory.specs.Fields.{told, sort_of, refer_in, refer_if, out_of_
 
 use kinds::fits;
 use memory::{Row, Told};
-use octets::{byte, number, wide};
+use octets::{byte, number};
 use paper::NodeNo;
 
 // A reference to node k from node own: 8 where it is not below, 9 where it does not fit, 11 where it is referred to already.
@@ -73,7 +73,7 @@ fn refer_at<'a>(
         };
     }
     refer(
-        NodeNo(number(b, wide(at))),
+        NodeNo(number(b, usize::from(at))),
         sort,
         own,
         kinds,
@@ -87,10 +87,10 @@ fn refer_at<'a>(
 fn range_bad(range: u8, x: u8, y: u8, names: usize) -> bool
     ensures { result ≡ out_of_range range x y names }
 {
-    ((range == 1) & (names <= wide(x)))
+    ((range == 1) & (names <= usize::from(x)))
         | (((range == 2) & (5 < x))
             | (((range == 3) & (2 < x))
-                | ((range == 4) & ((2 < x) | ((x == 0) & (names <= wide(y)))))))
+                | ((range == 4) & ((2 < x) | ((x == 0) & (names <= usize::from(y)))))))
 }
 
 // The same of a record's first bytes. Most records have no such field: of those no byte is read.

@@ -4,7 +4,7 @@ ghost use Rattle.paper.specs.Sets.{all_below};
 ghost use Rattle.memory.specs.Ends.{marks, rooted_in, ended_in};
 
 use kinds::fits;
-use octets::{long, number};
+use octets::number;
 use paper::Verdict;
 
 // Whether each of the first n nodes is marked. No branch depends on a mark, so that the compiler tests many at once.
@@ -66,7 +66,7 @@ pub fn ended<'a>(
     requires { nodes ≤ 512 }
     ensures { result ≡ ended_in b.now at names nodes kinds.now used.now }
 {
-    if (long(number(b, 0)) == nodes) & (b.len() == 2) {
+    if (usize::from(number(b, 0)) == nodes) & (b.len() == 2) {
         return rooted(at, names, nodes, kinds, used);
     }
     turned_away(12, at)

@@ -3,7 +3,6 @@ ghost use Rattle.std.specs.Prelude.{◌≡◌};
 ghost use Rattle.memory.specs.Heads.{order_by, full_by, Headed};
 
 use memory::{Head, Row};
-use octets::wide;
 
 // Whether a class of records may stand after what was read.
 fn order(class: u8, begun: bool, nodes: usize) -> bool
@@ -26,7 +25,7 @@ fn any_head(row: Row, left: usize, begun: bool, names: usize, nodes: usize) -> H
     if !order(class, begun, nodes) {
         return Head::Bad(2);
     }
-    if left < wide(row.len) {
+    if left < usize::from(row.len) {
         return Head::Bad(1);
     }
     if full(class, names, nodes) {
@@ -45,7 +44,7 @@ pub fn head_of(row: Row, left: usize, begun: bool, names: usize, nodes: usize) -
     ensures { Headed row left begun names nodes result }
 {
     let class = row.class;
-    let len = wide(row.len);
+    let len = usize::from(row.len);
     if ((class == 3) & begun) & ((nodes < 512) & (len <= left)) {
         return Head::Node;
     }

@@ -9,7 +9,6 @@ ghost use Rattle.noravilump.specs.Stretched.{stretch};
 
 use names::Names;
 use numbers::{Asked, answered, listed, yes_or_no};
-use octets::wide;
 use paper::NameNo;
 
 // Where a name begins in the record, and how many bytes it has.
@@ -72,7 +71,7 @@ pub extern "C" fn noravilump_name(bytes: &[u8], number: u8) -> Stretch
         return Stretch { at: 0, len: 0 };
     }
     Stretch {
-        at: 3 + 25 * wide(number),
+        at: 3 + 25 * usize::from(number),
         len: len,
     }
 }

@@ -5,7 +5,6 @@ ghost use Rattle.std.specs.Prelude.{◌≡◌, ◌<◌};
 ghost use Rattle.paper.specs.Questions.{answer_numbers, arithmetic_numbers, listing_numbers};
 ghost use Rattle.numbers.specs.Numbers.{asked};
 
-use octets::long;
 use paper::{Answer, Arithmetic, Listing};
 use writes::name_or_255;
 
@@ -37,7 +36,7 @@ pub fn answered(a: Answer) -> Asked
         Answer::Accepted => told(0, 0, 255),
         Answer::Unmet(f) => {
             let subject = f.name;
-            told(f.rule, long(f.node.0), name_or_255(subject))
+            told(f.rule, usize::from(f.node.0), name_or_255(subject))
         }
         Answer::Refused { number, offset } => told(number, offset, 255),
     }

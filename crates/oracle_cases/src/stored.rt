@@ -2,7 +2,7 @@
 ghost use Rattle.std.specs.Prelude.{◌<◌, ◌≤◌, length};
 
 use names::Names;
-use octets::{byte, long, number, tail};
+use octets::{byte, number, tail};
 
 const SEED: usize = 2;
 
@@ -56,7 +56,7 @@ fn part(bytes: &[u8], len: usize) -> &[u8] {
 
 // Where the list is cut short the record is too, and the library refuses it.
 pub fn record(list: &[u8]) -> &[u8] {
-    part(tail(list, RECORD), long(number(list, 0)))
+    part(tail(list, RECORD), usize::from(number(list, 0)))
 }
 
 // Where the case after the one at a place begins.
@@ -64,7 +64,7 @@ pub fn next(list: &[u8], at: usize) -> usize
     requires { at < length list.now }
     ensures { (at < result) × (result ≤ length list.now) }
 {
-    let len = RECORD + long(number(list, at));
+    let len = RECORD + usize::from(number(list, at));
     if list.len() - at <= len {
         return list.len();
     }

@@ -1,7 +1,6 @@
 // What was met: how often each rule was answered to each of the five questions, and how far the replay is.
 ghost use Rattle.std.specs.Prelude.{◌<◌};
 
-use octets::wide;
 use std::num::wrapping_add_u64;
 
 // So many are kept for each question.
@@ -63,7 +62,7 @@ fn place(question: usize, rule: usize) -> usize
 pub fn count(counts: &mut [u64; 320], question: usize, rule: u8)
     requires { question < 5 }
 {
-    let row = wide(rule);
+    let row = usize::from(rule);
     if row < RULES {
         let at = place(question, row);
         counts[at] = wrapping_add_u64(counts[at], 1);

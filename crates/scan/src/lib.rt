@@ -11,7 +11,7 @@ use heads::heads::head_of;
 use kinds::row_of;
 use memory::{Head, Scanned};
 use names::Names;
-use octets::{byte, wide};
+use octets::byte;
 use paper::Verdict;
 use table::{add_name, reserved_with};
 use words::copied;
@@ -48,7 +48,7 @@ pub fn scan_records(bytes: &[u8], starts: &mut [u16; 512]) -> Scanned
         let kind = bytes[at];
         let body = &bytes[at + 1..];
         let row = row_of(kind);
-        let next = at + 1 + wide(row.len);
+        let next = at + 1 + usize::from(row.len);
         match head_of(row, body.len(), begun, nn, nk) {
             Head::Bad(number) => {
                 return refused(number, at, reserved);

@@ -3,4 +3,4 @@ use Rattle.fields.proofs.range_bad.Goals as goal
 
 pub returns : goal.returns
 unfolding out_of_range
-returns c = rw (c.wide-2.ensures, c.wide.ensures)
+returns c = rw (c.from-2.ensures, c.from.ensures)

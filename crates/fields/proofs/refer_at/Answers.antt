@@ -10,4 +10,4 @@ returns-then-sort-eq0 c = rw (eq-eqb _ _ c.if-sort-eq0.true)
 pub returns : goal.returns
 unfolding refer_if
 returns c =
-    rw (ne_eqb _ _ c.if-sort-eq0.false, ← c.wide.ensures, two_bytes_at c.wide.result c.args.b.now, ← c.number.ensures) c.refer.ensures
+    rw (ne_eqb _ _ c.if-sort-eq0.false, ← c.from.ensures, two_bytes_at c.from.result c.args.b.now, ← c.number.ensures) c.refer.ensures

@@ -24,6 +24,6 @@ returns c =
     let bytes = c.args.bytes in
     let n = ap length c.name-found.ensures in
     let h = some n c.if-len-eq0.false in (
-      ap₂ (λ (x l : ℕ). stretch (record { at = 3 + 25 * x; len = l })) c.wide.ensures n ∙ sym (ap stretch (stretch_known _ _ h)),
-      ap₂ (λ (x l : ℕ). take l (drop (3 + 25 * x) bytes.now)) c.wide.ensures n ∙ stretch_holds _ _ h,
+      ap₂ (λ (x l : ℕ). stretch (record { at = 3 + 25 * x; len = l })) c.from.ensures n ∙ sym (ap stretch (stretch_known _ _ h)),
+      ap₂ (λ (x l : ℕ). take l (drop (3 + 25 * x) bytes.now)) c.from.ensures n ∙ stretch_holds _ _ h,
     )

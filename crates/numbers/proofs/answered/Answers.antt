@@ -19,7 +19,7 @@ pub returns-in-Unmet : goal.returns-in-Unmet
 unfolding answer_numbers
 returns-in-Unmet c =
     c.told-in-Unmet.ensures
-    ∙ ap₂ (λ (p n : ℕ). record { number = c.in-Unmet.f.rule; place = p; name = n }) c.long.ensures.0 c.name_or_255.ensures
+    ∙ ap₂ (λ (p n : ℕ). record { number = c.in-Unmet.f.rule; place = p; name = n }) c.from.ensures c.name_or_255.ensures
     ∙ sym (ap in_numbers c.in-Unmet.is)
 
 pub returns-in-Refused : goal.returns-in-Refused

@@ -39,9 +39,9 @@ module _ (c : After-head_of) where
   row_is : c.row_of-row.result ≡ row_at kind_here
   row_is = c.row_of-row.ensures
 
-  len_is : c.wide.result ≡ body_bytes (announced kind_here)
+  len_is : c.from.result ≡ body_bytes (announced kind_here)
   unfolding row_at
-  len_is = c.wide.ensures ∙ ap (λ (r : Row). r.len) row_is ∙ row_length (announced kind_here)
+  len_is = c.from.ensures ∙ ap (λ (r : Row). r.len) row_is ∙ row_length (announced kind_here)
 
   head_is : c.head_of.result ≡ head_by (row_at kind_here) (length (drop (v_at + 1) bytes)) c.loop-at.begun c.loop-at.nn c.loop-at.nk
   head_is = rw (← row_is, ← part) c.head_of.ensures.is

@@ -27,7 +27,7 @@ module _ (c : Else-full) where
   in_order = sym c.order.ensures ∙ c.if-not-order.false
 
   uncut : c.args.row.len ≤ c.args.left
-  uncut = rw c.wide.ensures at c.if-left-wide.false
+  uncut = rw c.from.ensures at c.if-left-from.false
 
   space : full_by c.args.row.class c.args.names c.args.nodes ≡ false
   space = sym c.full.ensures ∙ c.if-full.false
@@ -36,18 +36,18 @@ pub returns-then-not-order : goal.returns-then-not-order
 unfolding head_by
 returns-then-not-order c = record { is = simp (sym c.order.ensures ∙ c.if-not-order.true); allows = tt }
 
-pub returns-then-left-wide : goal.returns-then-left-wide
+pub returns-then-left-from : goal.returns-then-left-from
 unfolding head_by
-returns-then-left-wide c =
+returns-then-left-from c =
     let o = sym c.order.ensures ∙ c.if-not-order.false in
-    let l = rw c.wide.ensures at (lt-leb _ _ c.if-left-wide.true) in
+    let l = rw c.from.ensures at (lt-leb _ _ c.if-left-from.true) in
     record { is = simp (o, l); allows = tt }
 
 pub returns-then-full : goal.returns-then-full
 unfolding head_by
 returns-then-full c =
     let o = sym c.order.ensures ∙ c.if-not-order.false in
-    let l = rw c.wide.ensures at (le-leb _ _ c.if-left-wide.false) in
+    let l = rw c.from.ensures at (le-leb _ _ c.if-left-from.false) in
     record { is = simp (o, l, sym c.full.ensures ∙ c.if-full.true); allows = tt }
 
 pub returns-in-1 : goal.returns-in-1

@@ -30,9 +30,9 @@ stands class len left nodes begun e =
 pub returns-then-class-begun : goal.returns-then-class-begun
 returns-then-class-begun c =
     let s = c.args in
-    let t = stands s.row.class c.wide-len.result s.left s.nodes s.begun c.if-class-begun.true in
+    let t = stands s.row.class c.from-len.result s.left s.nodes s.begun c.if-class-begun.true in
     let fits = t.3 in
-    let long = c.wide-len.ensures in
+    let long = c.from-len.ensures in
     node s.row s.left s.begun s.names s.nodes t.0 t.1 t.2 (omega (arith, fits, long))
 
 pub returns : goal.returns
