@@ -5,7 +5,7 @@ ghost use Rattle.std.specs.Prelude.{◌≡◌, ◌≤◌, length};
 ghost use Rattle.memory.specs.Columns.{in_columns, Copies};
 
 use memory::COUNT;
-use octets::{eight, long};
+use octets::eight;
 
 // A node's word, of the first eight bytes of its record: the kind takes a column of its own, and the six bytes behind it the three others.
 fn in_columns(bytes: u64) -> u64
@@ -19,11 +19,8 @@ pub fn fill(bytes: &[u8], starts: &[u16; 512], nodes: usize, columns: &mut [u64;
     requires { (nodes ≤ 512) × (length columns.old ≡ 513) }
     ensures { Copies bytes.now starts.now nodes columns.new }
 {
-    let mut i: usize = 0;
-    while i < nodes {
-        let at = long(starts[i]);
-        columns[i] = in_columns(eight(bytes, at));
-        i = i + 1;
+    for i in 0..nodes {
+        columns[i] = in_columns(eight(bytes, usize::from(starts[i])));
     }
     columns[COUNT] = nodes as u64;
 }

@@ -1,10 +1,6 @@
 -- `fill` goes from node to node: the columns have those before it. Assumes nothing.
-use Prim.Native.Nat.{◌-◌}
 use Rattle.memory.proofs.FillLaws.{FirstCopied}
 use Rattle.columns.proofs.fill.Given as goal
 
 abbrev pub invariant-loop-i : goal.invariant-loop-i
 invariant-loop-i l = FirstCopied l.bytes l.starts l.nodes l.columns l.i
-
-abbrev pub decreases-loop-i : goal.decreases-loop-i
-decreases-loop-i l = l.nodes - l.i
