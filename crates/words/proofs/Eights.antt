@@ -1,9 +1,9 @@
 -- Bytes compared as one number: what one byte more adds to two numbers, and what a run of bytes in two names tells of them. Assumes nothing.
-use mathlib.Core.Path.{◌≡◌, refl, sym, ap, ap₂, ◌∙◌}
+use mathlib.Core.Path.{◌≡◌, refl, ◌∙◌}
 use mathlib.Core.Bool.{Bool, true, false, ◌&&◌, ◌||◌, and_assoc, or_assoc, and-or_distrib_left}
 use mathlib.Core.List.{List, ◌∷◌}
-use Prim.Native.Nat.{ℕ, zero, suc, ◌+◌, ◌*◌, ◌-◌, ◌<◌}
-use native.Mathlib.Nat.{add_assoc, add-suc}
+use Prim.Native.Nat.{ℕ, zero, suc, ◌+◌, ◌*◌, ◌<◌}
+use native.Mathlib.Nat.{add-suc}
 use native.Mathlib.Numerals.{add-one}
 use native.Mathlib.Omega.{arith}
 use mir.Syntax.{w8}
@@ -16,9 +16,7 @@ use borrow.Author.Tests.{eqb-true, eqb-false, ltb-true, ltb-false, eq-eqb, ne_eq
 use lib.Dec.{eqb, ltb}
 use lib.ListN.{length, get_or, drop}
 use lib.Seq.{drop-cons}
-use Rattle.octets.specs.Eights.{eight}
-use Rattle.words.specs.Eights.{turned}
-use Rattle.words.proofs.Halves.{low, turned_low, eqb_by}
+use Rattle.words.specs.Eights.{eight}
 
 -- ---- one byte more below two numbers
 
@@ -55,26 +53,6 @@ abbrev high_first : ℕ → List ℕ → ℕ → ℕ
 high_first zero n i = get_or n i 0
 high_first (suc k) n i = 256 * high_first k n i + get_or n (i + suc k) 0
 
-module _ {n : List ℕ} (m : Name n) (i : ℕ) where
-  abbrev after : ℕ → ℕ
-  after zero = get_or n i 0
-  after (suc k) = get_or n (i + suc k) 0
-
-  after_octet : (k : ℕ) → after k < 256
-  after_octet zero = m.octet i
-  after_octet (suc k) = m.octet (i + suc k)
-
-  eight_low : eight n i ≡ low after after_octet
-  eight_low = rw (add_assoc i 4 1, add_assoc i 4 2, add_assoc i 4 3)
-
-  turned_eight : turned (eight n i) ≡ high_first 7 n i
-  turned_eight = ap turned eight_low ∙ turned_low after after_octet ∙ omega arith
-
-  turned_back : turned (high_first 7 n i) ≡ eight n i
-  turned_back =
-      let e : high_first 7 n i ≡ low (λ k. after (7 - k)) (λ k. after_octet (7 - k)) = omega arith in
-      ap turned e ∙ turned_low (λ k. after (7 - k)) (λ k. after_octet (7 - k)) ∙ omega (arith, eight_low)
-
 -- The order of names and their being the same both go by the first bytes: `g` holds of them, or they are the same and `f` holds of the rest.
 module _ (f : List ℕ → List ℕ → Bool) (g : ℕ → ℕ → Bool) (by_first : (x y : ℕ) (xs ys : List ℕ) → f (x ∷ xs) (y ∷ ys) ≡ (g x y || (eqb x y && f xs ys)))
     (higher : (p q x y : ℕ) → x < 256 → y < 256 → g (256 * p + x) (256 * q + y) ≡ (g p q || (eqb p q && g x y))) {a b : List ℕ} (m : Name a) (n : Name b) where
@@ -93,11 +71,8 @@ module _ (f : List ℕ → List ℕ → Bool) (g : ℕ → ℕ → Bool) (by_fir
       ∙ rw (higher _ _ _ _ x y, higher_eqb _ _ _ _ x y, one_more (i + suc k) h, ← add-suc i (suc k)) (simp (and-or_distrib_left, or_assoc, and_assoc))
 
   -- so the numbers of eight bytes tell what the bytes do
-  pub eights : (i : ℕ) → i + 7 < 24 → {x y : ℕ} → x ≡ eight a i → y ≡ eight b i
-      → f (drop i a) (drop i b) ≡ (g (turned x) (turned y) || (eqb x y && f (drop (i + 8) a) (drop (i + 8) b)))
-  eights i h {x} {y} p q =
-      let u : turned x ≡ high_first 7 a i = ap turned p ∙ turned_eight m i in
-      let v : turned y ≡ high_first 7 b i = ap turned q ∙ turned_eight n i in
-      run i 7 h
-      ∙ ap₂ ◌||◌ (ap₂ g (sym u) (sym v))
-      (ap₂ ◌&&◌ (sym (eqb_by turned (turned_back m i ∙ sym p) (turned_back n i ∙ sym q) u v)) refl)
+  pub eights : (i : ℕ) → i + 7 < 24 → f (drop i a) (drop i b) ≡ (g (eight a i) (eight b i) || (eqb (eight a i) (eight b i) && f (drop (i + 8) a) (drop (i + 8) b)))
+  eights i h =
+      let u : high_first 7 a i ≡ eight a i = omega arith in
+      let v : high_first 7 b i ≡ eight b i = omega arith in
+      rw (← u, ← v) (run i 7 h)

@@ -1,6 +1,5 @@
--- The laws of a name's bytes: one byte more of each walk, eight bytes the other way round, bytes compared as one number, and a reserved word as 24 bytes.
+-- The laws of a name's bytes: one byte more of each walk, bytes compared as one number, and a reserved word as 24 bytes.
 pub mod Form
-pub mod Halves
 pub mod Eights
 pub mod Pairs
 pub mod Padding

@@ -1,38 +1,31 @@
--- A name without its padding is a first part of its bytes: one byte more of that part. Assumes nothing.
+-- A name without its padding is what stands before its first zero. Assumes nothing.
 use mathlib.Core.Path.{◌≡◌, refl, ap}
-use mathlib.Core.Bool.{Bool, true, false}
+use mathlib.Core.Bool.{Bool, true, false, not, cond}
 use mathlib.Core.List.{List, [], ◌∷◌}
-use Prim.Native.Nat.{ℕ, ◌+◌, ◌≤◌, ◌<◌}
-use native.Mathlib.Numerals.{add-one}
+use Prim.Native.Nat.{ℕ, suc, ◌+◌}
 use native.Mathlib.Omega.{arith}
 use lib.Dec.{eqb}
-use lib.ListN.{length, get_or, take, drop, drop_of_length-le}
-use lib.Seq.{drop-cons}
+use lib.ListN.{take}
+use Rattle.std.proofs.lemmas.Grind.{common_steps}
+use Rattle.std.proofs.Common.{Some, None}
+use Rattle.std.specs.List.{position, position_or_len}
 use Rattle.paper.specs.TheList.{trimmed}
 
-module _ (b : List ℕ) (i : ℕ) (h : i < length b) where
-  pub trimmed_zero : eqb (get_or b i 0) 0 ≡ true → trimmed (drop i b) ≡ []
-  unfolding trimmed
-  trimmed_zero t = rw (drop-cons b i 0 h, trimmed, t)
+abbrev zero : ℕ → Bool
+zero x = eqb x 0
 
-  pub trimmed_more : eqb (get_or b i 0) 0 ≡ false → trimmed (drop i b) ≡ get_or b i 0 ∷ trimmed (drop (i + 1) b)
-  unfolding trimmed
-  trimmed_more t = rw (add-one, drop-cons b i 0 h, trimmed, t)
-
-pub trimmed_end : (b : List ℕ) (i : ℕ) → length b ≤ i → trimmed (drop i b) ≡ []
+trimmed_is : (b : List ℕ) → take (position_or_len zero b) b ≡ trimmed b
 unfolding trimmed
-trimmed_end b i h = rw (drop_of_length-le b {i = i} h, trimmed)
-
--- the part that is as long as the name without its padding is that name
-pub record Front (b : List ℕ) (name : List ℕ) : Type 0 where
-  pub short : length name ≤ length b
-  pub part : take (length name) b ≡ name
-
-pub trimmed_front : (b : List ℕ) → Front b (trimmed b)
-unfolding trimmed
-trimmed_front [] = record { short = omega arith; part = refl }
-trimmed_front (x ∷ xs) = go (eqb x 0) (trimmed_front xs)
+trimmed_is [] = refl
+trimmed_is (x ∷ xs) = go (eqb x 0) (trimmed_is xs)
   where
-    go : (z : Bool) → Front xs (trimmed xs) → Front (x ∷ xs) (elim z [ true ↦ [] | false ↦ x ∷ trimmed xs ])
-    go true f = record { short = omega arith; part = refl }
-    go false f = record { short = omega arith; part = ap (λ l. x ∷ l) f.part }
+    go : (z : Bool) → take (position_or_len zero xs) xs ≡ trimmed xs
+        → take (cond (not z) (1 + position_or_len zero xs) 0) (x ∷ xs) ≡ elim z [ true ↦ [] | false ↦ x ∷ trimmed xs ]
+    go true e = refl
+    go false e = let h : 1 + position_or_len zero xs ≡ suc (position_or_len zero xs) = omega arith in rw h (ap (λ l. x ∷ l) e)
+
+pub before_zero : (b : List ℕ) (n : ℕ) → position zero b ≡ Some n → take n b ≡ trimmed b
+before_zero b n e = grind (arith, common_steps, trimmed_is b)
+
+pub no_zero : (b : List ℕ) → position zero b ≡ None → b ≡ trimmed b
+no_zero b e = grind (arith, common_steps, trimmed_is b)

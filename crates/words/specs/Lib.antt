@@ -1,3 +1,2 @@
--- When two names are the same, and the bytes of a number the other way round.
-pub mod Same
+-- Eight bytes of a name as one number.
 pub mod Eights

@@ -1,6 +1,6 @@
 -- `is_reserved` compares a name with each of the four words, as 24 bytes. Assumes nothing.
 use mathlib.Core.Path.{◌∙◌, ap₂}
-use mathlib.Core.Bool.{◌||◌}
+use mathlib.Core.Bool.{◌||◌, or_assoc}
 use native.Mathlib.Omega.{arith}
 use Rattle.paper.specs.Record.{ascii}
 use Rattle.paper.specs.Scoping.{is_reserved}
@@ -11,7 +11,8 @@ pub returns : goal.returns
 unfolding is_reserved ascii
 returns c =
     let n = c.args.n in
-    ap₂ ◌||◌ (c.same.ensures ∙ same_word (ascii "principal") 15 n (omega arith))
+    simp or_assoc
+    (ap₂ ◌||◌ (c.same.ensures ∙ same_word (ascii "principal") 15 n (omega arith))
     (ap₂ ◌||◌ (c.same-2.ensures ∙ same_word (ascii "action") 18 n (omega arith))
     (ap₂ ◌||◌ (c.same-3.ensures ∙ same_word (ascii "resource") 16 n (omega arith))
-    (c.same-4.ensures ∙ same_word (ascii "context") 17 n (omega arith))))
+    (c.same-4.ensures ∙ same_word (ascii "context") 17 n (omega arith)))))

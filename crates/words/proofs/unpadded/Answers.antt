@@ -1,15 +1,10 @@
--- `unpadded` lends the first part of the bytes that is as long as the text. Assumes nothing.
-use mathlib.Core.Path.{sym}
-use native.Mathlib.Omega.{arith}
-use lib.Seq.{length-take-le}
-use Rattle.words.proofs.Padding.{trimmed_front}
+-- `unpadded` lends the bytes before the first zero, or all of them. Assumes nothing.
+use mathlib.Core.Path.{sym, ◌∙◌}
+use Rattle.words.proofs.Padding.{before_zero, no_zero}
 use Rattle.words.proofs.unpadded.Goals as goal
 
-pub slice_bounds-result-end : goal.slice_bounds-result-end
-slice_bounds-result-end c =
-    let b = c.args.b.now in
-    let f = trimmed_front b in
-    sym (length-take-le c.text_length-len.result b (omega arith))
+pub returns-in-Some : goal.returns-in-Some
+returns-in-Some c = before_zero _ _ (sym c.first_zero.ensures ∙ c.in-Some.is)
 
-pub returns : goal.returns
-returns c = rw c.text_length-len.ensures (trimmed_front _).part
+pub returns-in-None : goal.returns-in-None
+returns-in-None c = no_zero _ (sym c.first_zero.ensures ∙ c.in-None.is)
