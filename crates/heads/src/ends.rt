@@ -12,11 +12,9 @@ fn all_marked(used: &[u8; 512], n: usize) -> bool
     requires { n ≤ 512 }
     ensures { result ≡ all_below n (marks used.now) }
 {
-    let mut i: usize = 0;
     let mut all = true;
-    while i < n {
-        all = (used[i] != 0) & all;
-        i = i + 1;
+    for mark in &used[..n] {
+        all &= *mark != 0;
     }
     all
 }

@@ -2,7 +2,7 @@
 ghost use Rattle.std.specs.Prelude.{◌≡◌};
 ghost use Rattle.memory.specs.Heads.{order_by, full_by, Headed};
 
-use memory::{Head, Row};
+use memory::{Fault, Head, Row};
 
 // Whether a class of records may stand after what was read.
 fn order(class: u8, begun: bool, nodes: usize) -> bool
@@ -18,35 +18,41 @@ fn full(class: u8, names: usize, nodes: usize) -> bool
 }
 
 // Kind, cut and capacity.
-fn any_head(row: Row, left: usize, begun: bool, names: usize, nodes: usize) -> Head
+fn any_head(row: Row, left: usize, begun: bool, names: usize, nodes: usize) -> Result<Head, Fault>
     ensures { Headed row left begun names nodes result }
 {
     let class = row.class;
     if !order(class, begun, nodes) {
-        return Head::Bad(2);
+        return Err(Fault::OutOfOrder);
     }
     if left < usize::from(row.len) {
-        return Head::Bad(1);
+        return Err(Fault::CutShort);
     }
     if full(class, names, nodes) {
-        return Head::Bad(6);
+        return Err(Fault::NoRoom);
     }
     match class {
-        1 => Head::Format,
-        2 => Head::Name,
-        3 => Head::Node,
-        _ => Head::End,
+        1 => Ok(Head::Format),
+        2 => Ok(Head::Name),
+        3 => Ok(Head::Node),
+        _ => Ok(Head::End),
     }
 }
 
 // The same. Most records are nodes where one may stand, and these are told by one test.
-pub fn head_of(row: Row, left: usize, begun: bool, names: usize, nodes: usize) -> Head
+pub fn head_of(
+    row: Row,
+    left: usize,
+    begun: bool,
+    names: usize,
+    nodes: usize,
+) -> Result<Head, Fault>
     ensures { Headed row left begun names nodes result }
 {
     let class = row.class;
     let len = usize::from(row.len);
     if ((class == 3) & begun) & ((nodes < 512) & (len <= left)) {
-        return Head::Node;
+        return Ok(Head::Node);
     }
     any_head(row, left, begun, names, nodes)
 }

@@ -14,11 +14,16 @@ use Rattle.paper.specs.Sets.{Set, only, ◌∪◌}
 use Rattle.paper.specs.Record.{pick, byte, second, Sort, condition, term, arguments, items, binders, fits, two_bytes, Field, to, name_number, symbol, octet, comparison_op, arith_op, slot, field_bytes, Kind, node}
 use Rattle.paper.specs.TurnedAway.{Seen, unseen, SoFar, Checked, fault, fine, refer, in_range, check, check_all, check_depth}
 use Rattle.memory.specs.Rows.{sort_code, range_code, placed, references, first_range, row_for}
+use Rattle.std.specs.Prelude.{Ok, Err}
+use Rattle.std.specs.declared.result.Result.{Result}
+use Rattle.memory.specs.declared.Fault.{Fault}
+use Rattle.memory.specs.declared.Fault.TheVariants.{OutOfRange, NotBelow, WrongSort, TooDeep, ReferredTwice}
 use Rattle.memory.specs.Fields.{
   Marks,
   Shows,
   Marked,
   marked,
+  Says,
   Same,
   sort_of,
   refer_in,
@@ -61,35 +66,35 @@ module _ (nodes : List Seen) (ks ds : List ℕ) (shows : Shows nodes ks ds) (sma
   refer_same s k d used u m = go (dec_lt k (length nodes))
     where
       go3 : k < 512 → (b : Bool) → not (eqb (get_or used k 0) 0) ≡ b
-          → Same (pick (eqb (get_or used k 0) 0) (marked 0 (max d (get_or ds k 0)) (set used k 1)) (marked 11 d used))
+          → Same (pick (eqb (get_or used k 0) 0) (marked (Ok (max d (get_or ds k 0))) (set used k 1)) (marked (Err ReferredTwice) used))
           (pick b (fault 11) (fine (max d (get_or nodes k unseen).depth) (u ∪ only k)))
-      go3 h true e = rw (flip (eqb (get_or used k 0) 0) e) (refl, (let z : 0 < 11 = omega arith in z))
+      go3 h true e = rw (flip (eqb (get_or used k 0) 0) e) refl
         where
           flip : (b : Bool) → not b ≡ true → b ≡ false
           flip true e = absurd (false≢true e)
           flip false e = refl
-      go3 h false e = rw (flip (eqb (get_or used k 0) 0) e, shows.depth k) (refl, refl, marks_more used u k m h)
+      go3 h false e = rw (flip (eqb (get_or used k 0) 0) e, shows.depth k) (refl, marks_more used u k m h)
         where
           flip : (b : Bool) → not b ≡ false → b ≡ true
           flip true e = refl
           flip false e = absurd (true≢false e)
 
       go2 : k < length nodes → (b : Bool)
-          → Same (pick b (pick (eqb (get_or used k 0) 0) (marked 0 (max d (get_or ds k 0)) (set used k 1)) (marked 11 d used)) (marked 9 d used))
+          → Same (pick b (pick (eqb (get_or used k 0) 0) (marked (Ok (max d (get_or ds k 0))) (set used k 1)) (marked (Err ReferredTwice) used)) (marked (Err WrongSort) used))
           (pick b (pick (u k) (fault 11) (fine (max d (get_or nodes k unseen).depth) (u ∪ only k))) (fault 9))
       go2 h true = go3 (omega arith) (u k) (m.mark k (omega arith))
-      go2 h false = (refl, (let z : 0 < 9 = omega arith in z))
+      go2 h false = refl
 
       go : Dec (k < length nodes)
           → Same
           (pick (ltb k (length nodes))
-          (pick (fits s (get_or ks k 0)) (pick (eqb (get_or used k 0) 0) (marked 0 (max d (get_or ds k 0)) (set used k 1)) (marked 11 d used)) (marked 9 d used))
-          (marked 8 d used))
+          (pick (fits s (get_or ks k 0)) (pick (eqb (get_or used k 0) 0) (marked (Ok (max d (get_or ds k 0))) (set used k 1)) (marked (Err ReferredTwice) used)) (marked (Err WrongSort) used))
+          (marked (Err NotBelow) used))
           (pick (ltb k (length nodes))
           (pick (fits s (get_or nodes k unseen).kind) (pick (u k) (fault 11) (fine (max d (get_or nodes k unseen).depth) (u ∪ only k))) (fault 9))
           (fault 8))
       go (yes h) = rw (lt-ltb k (length nodes) h, shows.kind k) (go2 h (fits s (get_or nodes k unseen).kind))
-      go (no h) = rw (le-ltb k (length nodes) (omega arith)) (refl, (let z : 0 < 8 = omega arith in z))
+      go (no h) = rw (le-ltb k (length nodes) (omega arith)) refl
 
 -- ---- one after the other
 
@@ -98,11 +103,13 @@ then c f = elim c [ fault n ↦ fault n | fine d u ↦ f d u ]
 
 then_same : (m : Marked) (c : Checked) (f : ℕ → List ℕ → Marked) (g : ℕ → Set → Checked) → Same m c
     → ((d : ℕ) (used : List ℕ) (u : Set) → Marks used u → Same (f d used) (g d u)) → Same (after m f) (then c g)
-then_same m (fault n) f g h k =
-    let z : m.fault ≡ n = h.0 in
-    let y : 0 < n = h.1 in
-    rw (ne_eqb m.fault 0 (λ e. omega arith)) h
-then_same m (fine d u) f g h k = rw (eq-eqb m.fault 0 h.0, h.1) (k d m.used u h.2)
+then_same m c f g h k = go m.answer c h
+  where
+    go : (a : Result ℕ Fault) (c : Checked) → Says a m.used c → Same (elim a [ Ok d ↦ f d m.used | Err e ↦ marked (Err e) m.used ]) (then c g)
+    go (Ok d) (fine deep u) h = rw h.0 (k deep m.used u h.1)
+    go (Ok d) (fault n) h = absurd h
+    go (Err e) (fine deep u) h = absurd h
+    go (Err e) (fault n) h = h
 
 -- ---- the fields in their places
 
@@ -298,18 +305,18 @@ module _ (b : List ℕ) (so : SoFar) where
     ref_same p d used u m = go (eqb p.0 0)
       where
         go : (t : Bool)
-            → Same (pick t (marked 0 d used) (refer_in ks ds (sort_of p.0) (two_bytes (drop p.1 b)) (length so.nodes) d used))
+            → Same (pick t (marked (Ok d) used) (refer_in ks ds (sort_of p.0) (two_bytes (drop p.1 b)) (length so.nodes) d used))
             (pick t (fine d u) (refer (sort_of p.0) (two_bytes (drop p.1 b)) so.nodes d u))
-        go true = (refl, refl, m)
+        go true = (refl, m)
         go false = refer_same so.nodes ks ds shows small (sort_of p.0) (two_bytes (drop p.1 b)) d used u m
 
-    deep_same : (d : ℕ) (used : List ℕ) (u : Set) → Marks used u → Same (pick (leb 64 d) (marked 10 d used) (marked 0 d used)) (check_depth (fine d u))
+    deep_same : (d : ℕ) (used : List ℕ) (u : Set) → Marks used u → Same (pick (leb 64 d) (marked (Err TooDeep) used) (marked (Ok d) used)) (check_depth (fine d u))
     unfolding check_depth
     deep_same d used u m = go (dec_lt d 64)
       where
-        go : Dec (d < 64) → Same (pick (leb 64 d) (marked 10 d used) (marked 0 d used)) (pick (ltb 64 (d + 1)) (fault 10) (fine d u))
-        go (yes h) = rw (lt-leb 64 d h, le-ltb 64 (d + 1) (omega arith)) (refl, refl, m)
-        go (no h) = rw (le-leb 64 d (omega arith), lt-ltb 64 (d + 1) (omega arith)) (refl, (let z : 0 < 10 = omega arith in z))
+        go : Dec (d < 64) → Same (pick (leb 64 d) (marked (Err TooDeep) used) (marked (Ok d) used)) (pick (ltb 64 (d + 1)) (fault 10) (fine d u))
+        go (yes h) = rw (lt-leb 64 d h, le-ltb 64 (d + 1) (omega arith)) (refl, m)
+        go (no h) = rw (le-leb 64 d (omega arith), lt-ltb 64 (d + 1) (omega arith)) refl
 
     depth_then : (c : Checked) (g : ℕ → Set → Checked) → check_depth (then c g) ≡ then c (λ d u. check_depth (g d u))
     unfolding check_depth
@@ -337,44 +344,44 @@ module _ (b : List ℕ) (so : SoFar) where
 
         go : (t : Bool)
             → Same
-            (pick t (marked 7 0 used)
+            (pick t (marked (Err OutOfRange) used)
             (after (refer_if ks ds b p.0 p.1 (length so.nodes) 0 used)
-            (λ d v. after (refer_if ks ds b q.0 q.1 (length so.nodes) d v) (λ d v. pick (leb 64 d) (marked 10 d v) (marked 0 d v)))))
+            (λ d v. after (refer_if ks ds b q.0 q.1 (length so.nodes) d v) (λ d v. pick (leb 64 d) (marked (Err TooDeep) v) (marked (Ok d) v)))))
             (check_depth (pick t (fault 7) (then (ref_if p 0 so.used) (λ d u. ref_if q d u))))
-        go true = (refl, (let z : 0 < 7 = omega arith in z))
+        go true = refl
         go false =
             rw (depth_then (ref_if p 0 so.used) (λ d u. ref_if q d u))
             (then_same (refer_if ks ds b p.0 p.1 (length so.nodes) 0 used) (ref_if p 0 so.used)
-            (λ d v. after (refer_if ks ds b q.0 q.1 (length so.nodes) d v) (λ d v. pick (leb 64 d) (marked 10 d v) (marked 0 d v)))
+            (λ d v. after (refer_if ks ds b q.0 q.1 (length so.nodes) d v) (λ d v. pick (leb 64 d) (marked (Err TooDeep) v) (marked (Ok d) v)))
             (λ d u. check_depth (ref_if q d u)) (ref_same p 0 used so.used m)
             (λ d v u n.
-            subst (λ (c : Checked). Same (after (refer_if ks ds b q.0 q.1 (length so.nodes) d v) (λ d v. pick (leb 64 d) (marked 10 d v) (marked 0 d v))) c)
+            subst (λ (c : Checked). Same (after (refer_if ks ds b q.0 q.1 (length so.nodes) d v) (λ d v. pick (leb 64 d) (marked (Err TooDeep) v) (marked (Ok d) v))) c)
             (sym (depth_end (ref_if q d u)))
-            (then_same (refer_if ks ds b q.0 q.1 (length so.nodes) d v) (ref_if q d u) (λ d v. pick (leb 64 d) (marked 10 d v) (marked 0 d v))
+            (then_same (refer_if ks ds b q.0 q.1 (length so.nodes) d v) (ref_if q d u) (λ d v. pick (leb 64 d) (marked (Err TooDeep) v) (marked (Ok d) v))
             (λ d u. check_depth (fine d u)) (ref_same q d v u n) deep_same)))
 
 -- ---- the depth
 
 -- what is found without a fault is less than 64 deep
-abbrev Shallow : Marked → Type 0
-Shallow m = m.fault ≡ 0 → m.deep < 64
+abbrev pub Shallow : Marked → Type 0
+Shallow m = elim m.answer [ Ok d ↦ d < 64 | Err e ↦ Unit {0} ]
 
 after_shallow : (m : Marked) (f : ℕ → List ℕ → Marked) → ((d : ℕ) (u : List ℕ) → Shallow (f d u)) → Shallow (after m f)
-after_shallow m f h = go (ℕ_discrete m.fault 0)
+after_shallow m f h = go m.answer
   where
-    go : Dec (m.fault ≡ 0) → Shallow (after m f)
-    go (yes e) = rw (eq-eqb m.fault 0 e) (h m.deep m.used)
-    go (no e) = rw (ne_eqb m.fault 0 e) (λ z. absurd (e z))
+    go : (a : Result ℕ Fault) → Shallow (elim a [ Ok d ↦ f d m.used | Err e ↦ marked (Err e) m.used ])
+    go (Ok d) = h d m.used
+    go (Err e) = tt
 
 abbrev depth_tested : ℕ → List ℕ → Marked
-depth_tested d u = pick (leb 64 d) (marked 10 d u) (marked 0 d u)
+depth_tested d u = pick (leb 64 d) (marked (Err TooDeep) u) (marked (Ok d) u)
 
 tested_shallow : (d : ℕ) (u : List ℕ) → Shallow (depth_tested d u)
 tested_shallow d u = go (dec_lt d 64)
   where
     go : Dec (d < 64) → Shallow (depth_tested d u)
-    go (yes h) = rw (lt-leb 64 d h) (λ z. h)
-    go (no h) = rw (le-leb 64 d (omega arith)) (λ z. one_zero 9 z)
+    go (yes h) = rw (lt-leb 64 d h) h
+    go (no h) = rw (le-leb 64 d (omega arith)) tt
 
 pub shallow : (ks ds b : List ℕ) (row : Row) (names own : ℕ) (used : List ℕ) → Shallow (checked_in ks ds b row names own used)
 unfolding checked_in
@@ -386,6 +393,6 @@ shallow ks ds b row names own used = go (out_of_range row.range (byte b) (second
     two : ℕ → List ℕ → Marked
     two d u = refer_if ks ds b row.sort2 row.at2 own d u
 
-    go : (t : Bool) → Shallow (pick t (marked 7 0 used) (after one (λ d u. after (two d u) depth_tested)))
-    go true = λ z. one_zero 6 z
+    go : (t : Bool) → Shallow (pick t (marked (Err OutOfRange) used) (after one (λ d u. after (two d u) depth_tested)))
+    go true = tt
     go false = after_shallow one (λ d u. after (two d u) depth_tested) (λ d u. after_shallow (two d u) depth_tested tested_shallow)

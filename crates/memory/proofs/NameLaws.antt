@@ -11,9 +11,14 @@ use lib.Seq.{get_or-take}
 use borrow.Author.Tests.{eq-eqb, ne_eqb}
 use Rattle.paper.specs.Sets.{Set, only, ◌∪◌}
 use Rattle.paper.specs.Record.{pick, is_name, precedes, ascii}
-use Rattle.paper.specs.TurnedAway.{SoFar, on, stop, refused, last_name, read_name}
+use Rattle.paper.specs.TurnedAway.{SoFar, Step, on, stop, refused, last_name, read_name}
 use Rattle.paper.specs.Scoping.{is_word, is_reserved, reserved}
 use Rattle.paper.proofs.Runs.{after_name, last_of}
+use Rattle.std.specs.Prelude.{Ok, Err}
+use Rattle.std.specs.declared.result.Result.{Result}
+use Rattle.memory.specs.Faults.{number}
+use Rattle.memory.specs.declared.Fault.{Fault}
+use Rattle.memory.specs.declared.Fault.TheVariants.{NotAName, NamesNotAscending}
 use Rattle.memory.specs.Naming.{named_in, reserved_as}
 
 -- ---- reserved names
@@ -54,6 +59,10 @@ unfolding is_name precedes
 after_nothing [] e = absurd (false≢true e)
 after_nothing (x ∷ n) e = refl
 
+-- what is done where a new name was found to be so
+abbrev pub taken_on : List ℕ → SoFar → Result (Unit {0}) Fault → Step
+taken_on n so r = elim r [ Ok t ↦ on (after_name n so) | Err f ↦ stop (refused (number f) so.at) ]
+
 module _ (n : List ℕ) (so : SoFar) (table : List (List ℕ)) (count : ℕ) (small : count ≤ length table) (same : so.names ≡ take count table) (long : length so.names ≡ count) where
   last_in : (m : ℕ) → count ≡ suc m → last_name so.names ≡ get_or table (count - 1) []
   unfolding last_name
@@ -63,18 +72,17 @@ module _ (n : List ℕ) (so : SoFar) (table : List (List ℕ)) (count : ℕ) (sm
   unfolding last_name
   last_none e = get_or-eq_default so.names [] {n = length so.names - 1} (omega arith)
 
-  pub name_step : read_name n so ≡ pick (eqb (named_in n table count) 0) (on (after_name n so)) (stop (refused (named_in n table count) so.at))
+  pub name_step : read_name n so ≡ taken_on n so (named_in n table count)
   unfolding read_name named_in
   name_step = go (is_name n) refl count refl
     where
       go : (t : Bool) → is_name n ≡ t → (m : ℕ) → count ≡ m
           → pick t (pick (precedes (last_name so.names) n) (on (after_name n so)) (stop (refused 5 so.at))) (stop (refused 4 so.at))
-          ≡ pick (eqb (pick t (pick (eqb m 0) 0 (pick (precedes (get_or table (m - 1) []) n) 0 5)) 4) 0) (on (after_name n so))
-          (stop (refused (pick t (pick (eqb m 0) 0 (pick (precedes (get_or table (m - 1) []) n) 0 5)) 4) so.at))
+          ≡ taken_on n so (pick t (pick (eqb m 0) (Ok tt) (pick (precedes (get_or table (m - 1) []) n) (Ok tt) (Err NamesNotAscending))) (Err NotAName))
       go false e m d = refl
       go true e zero d = rw (last_none d, after_nothing n e)
       go true e (suc m) d = rw (last_in m d, d, ne_eqb (suc m) 0 (λ z. omega arith)) (two (precedes (get_or table (suc m - 1) []) n))
         where
-          two : (b : Bool) → pick b (on (after_name n so)) (stop (refused 5 so.at)) ≡ pick (eqb (pick b 0 5) 0) (on (after_name n so)) (stop (refused (pick b 0 5) so.at))
+          two : (b : Bool) → pick b (on (after_name n so)) (stop (refused 5 so.at)) ≡ taken_on n so (pick b (Ok tt) (Err NamesNotAscending))
           two true = refl
           two false = refl

@@ -10,24 +10,28 @@ use native.Mathlib.Numerals.{add-one}
 use lib.Dec.{eqb}
 use lib.ListN.{length, take, drop, get_or, set, replicate, length-set, drop_of_length-le, get_or-append, get_or-eq_default, length-map}
 use lib.Seq.{drop-cons, drop-drop, take-suc-set, get_or-set_same, get_or-set_other}
-use borrow.Author.Tests.{eq-eqb, ne_eqb}
 use Rattle.paper.specs.declared.Verdict.TheVariants.{Refused}
 use Rattle.paper.specs.Sets.{Set, none, ◌∪◌}
-use Rattle.paper.specs.Record.{pick, byte, ascii, Kind, Announced, node, announced, body_bytes}
+use Rattle.paper.specs.Record.{byte, ascii, Kind, Announced, node, announced, body_bytes}
 use Rattle.paper.specs.TurnedAway.{Contents, Outcome, refused, accepted, verdict, Seen, unseen, SoFar, nothing_read, Checked, fault, fine, check_all, check_depth, Step, on, stop, read_format, add_node, read_node, read_end, read_record, read_on, read}
 use Rattle.paper.specs.Scoping.{is_word, is_reserved, reserved}
 use Rattle.paper.proofs.Runs.{after_format, after_name, after_node, seen_node, went, went_at, went_named, went_begun, refused_accepted, last_of, closed}
 use Rattle.names.specs.Words.{mem}
 use Rattle.names.specs.declared.Names.{Names}
 use Rattle.memory.specs.Rows.{row_for, row_at}
-use Rattle.memory.specs.Fields.{Marks, Shows, Marked, Same, checked_in, Added}
+use Rattle.memory.specs.Fields.{Marks, Shows, Marked, Says, Same, checked_in, Added}
 use Rattle.memory.specs.Heads.{head_by, order_by}
 use Rattle.memory.specs.Naming.{named_in, reserved_as}
 use Rattle.memory.specs.Ends.{ended_in}
 use Rattle.memory.specs.Starts.{start_of, Holds, Scan}
 use Rattle.memory.specs.declared.Scanned.{Scanned}
+use Rattle.std.specs.Prelude.{Ok, Err, MatchResult}
+use Rattle.std.specs.declared.result.Result.{Result}
+use Rattle.memory.specs.Faults.{number}
+use Rattle.memory.specs.declared.Fault.{Fault}
+use Rattle.memory.specs.declared.Fault.TheVariants.{OutOfOrder}
 use Rattle.memory.specs.declared.Head.{Head}
-use Rattle.memory.specs.declared.Head.TheVariants.{Bad, Format, Name, Node, End}
+use Rattle.memory.specs.declared.Head.TheVariants.{Format, Name, Node, End}
 use Rattle.memory.proofs.FieldLaws.{row_same}
 use Rattle.memory.proofs.KindLaws.{known, class_format, class_name, class_node}
 use Rattle.memory.proofs.HeadLaws.{head, step_bad, step_format, step_name, step_node, step_end}
@@ -136,39 +140,39 @@ module _ (bytes : List ℕ) (at : ℕ) (begun : Bool) (nn nk : ℕ) (starts : Li
     next_reached next e = keeps bytes kind rest l.so front_so l.reached (went kind rest l.so next e)
 
     -- the head that the code sees is the definitions'
-    abbrev seen : Head
+    abbrev seen : Result Head Fault
     seen = head_by (row_at kind) (length rest) begun nn nk
 
-    seen_is : (h : Head) → seen ≡ h → head kind rest l.so ≡ h
+    seen_is : (h : Result Head Fault) → seen ≡ h → head kind rest l.so ≡ h
     seen_is h e = rw (l.begun_is, l.nn_is, l.nk_is) e
 
-    pub bad_turn : (n : ℕ) → seen ≡ Bad n → read bytes ≡ refused n at
-    bad_turn n e = refused_at n (step_bad kind rest l.so n (seen_is (Bad n) e))
+    pub bad_turn : (f : Fault) → seen ≡ Err f → read bytes ≡ refused (number f) at
+    bad_turn f e = refused_at (number f) (step_bad kind rest l.so f (seen_is (Err f) e))
 
     -- ---- the format record
 
-    not_yet : seen ≡ Format → (row_at kind).class ≡ 1 → begun ≡ false
+    not_yet : seen ≡ Ok Format → (row_at kind).class ≡ 1 → begun ≡ false
     unfolding head_by order_by
     not_yet e c = go begun refl
       where
         go : (b : Bool) → begun ≡ b → begun ≡ false
         go false d = d
         go true d =
-            let z : Bad 2 ≡ Format = sym (late d) ∙ e in
+            let z : ◌≡◌ {A = Result Head Fault} (Err OutOfOrder) (Ok Format) = sym (late d) ∙ e in
             absurd (let y : ◌≡◌ {A = ℕ} 0 1 = cc in omega arith)
           where
-            late : begun ≡ true → seen ≡ Bad 2
+            late : begun ≡ true → seen ≡ Err OutOfOrder
             late d = rw (c, d)
 
-    pub format_bad : seen ≡ Format → eqb (byte rest) 1 ≡ false → read bytes ≡ refused 3 at
+    pub format_bad : seen ≡ Ok Format → eqb (byte rest) 1 ≡ false → read bytes ≡ refused 3 at
     unfolding read_format
-    format_bad e f = refused_at 3 (step_format kind rest l.so (seen_is Format e) ∙ rw f)
+    format_bad e f = refused_at 3 (step_format kind rest l.so (seen_is (Ok Format) e) ∙ rw f)
 
-    pub format_turn : seen ≡ Format → (row_at kind).class ≡ 1 → eqb (byte rest) 1 ≡ true
+    pub format_turn : seen ≡ Ok Format → (row_at kind).class ≡ 1 → eqb (byte rest) 1 ≡ true
         → Looped bytes (at + 1 + body_bytes (announced kind)) true nn nk starts words table ks ds used
     unfolding read_format row_at body_bytes
     format_turn e c f =
-        let s : read_record kind rest l.so ≡ on (after_format l.so) = step_format kind rest l.so (seen_is Format e) ∙ rw f in
+        let s : read_record kind rest l.so ≡ on (after_format l.so) = step_format kind rest l.so (seen_is (Ok Format) e) ∙ rw f in
         let z : at ≡ 0 = sym l.here ∙ (l.reached.fresh (l.begun_is ∙ not_yet e c)).0 in
         let y : body_bytes (announced kind) ≡ 1 = ap body_bytes (class_format (announced kind) c) in
         record {
@@ -196,23 +200,23 @@ module _ (bytes : List ℕ) (at : ℕ) (begun : Bool) (nn nk : ℕ) (starts : Li
     abbrev text : List ℕ
     text = take 24 rest
 
-    abbrev naming : ℕ
+    abbrev naming : Result (Unit {0}) Fault
     naming = named_in text table nn
 
-    name_is : nn ≤ 128 → seen ≡ Name
-        → read_record kind rest l.so ≡ pick (eqb naming 0) (on (after_name text l.so)) (stop (refused naming l.so.at))
+    name_is : nn ≤ 128 → seen ≡ Ok Name
+        → read_record kind rest l.so ≡ elim naming [ Ok t ↦ on (after_name text l.so) | Err f ↦ stop (refused (number f) l.so.at) ]
     name_is h e =
-        step_name kind rest l.so (seen_is Name e)
+        step_name kind rest l.so (seen_is (Ok Name) e)
         ∙ name_step text l.so table nn (let t = l.table_long in omega arith) l.names_are l.nn_is
 
-    pub name_bad : nn ≤ 128 → seen ≡ Name → (naming ≡ 0 → ⊥) → read bytes ≡ refused naming at
-    name_bad h e f = refused_at naming (name_is h e ∙ rw (ne_eqb naming 0 f))
+    pub name_bad : (f : Fault) → nn ≤ 128 → seen ≡ Ok Name → naming ≡ Err f → read bytes ≡ refused (number f) at
+    name_bad f h e d = refused_at (number f) (name_is h e ∙ rw d)
 
-    pub name_turn : (more : Names) → seen ≡ Name → (row_at kind).class ≡ 2 → nn < 128 → naming ≡ 0 → mem more ≡ mem words ∪ reserved_as text nn
+    pub name_turn : (more : Names) → seen ≡ Ok Name → (row_at kind).class ≡ 2 → nn < 128 → naming ≡ Ok tt → mem more ≡ mem words ∪ reserved_as text nn
         → Looped bytes (at + 1 + body_bytes (announced kind)) begun (nn + 1) nk starts more (set table nn text) ks ds used
     unfolding row_at body_bytes
     name_turn more e c h f m =
-        let s : read_record kind rest l.so ≡ on (after_name text l.so) = name_is (omega arith) e ∙ rw (eq-eqb naming 0 f) in
+        let s : read_record kind rest l.so ≡ on (after_name text l.so) = name_is (omega arith) e ∙ rw f in
         let y : body_bytes (announced kind) ≡ 24 = ap body_bytes (class_name (announced kind) c) in
         let t = l.table_long in
         let n = l.near in
@@ -251,47 +255,46 @@ module _ (bytes : List ℕ) (at : ℕ) (begun : Bool) (nn nk : ℕ) (starts : Li
         subst (λ (a : Announced). Same (checked_in ks ds rest (row_for a) nn nk used) (fields r)) (sym e)
         (rw (← l.nn_is, ← l.nk_is) (row_same rest l.so ks ds l.shows (let k = l.nk_is in omega arith) r (known kind r e).row_like used l.marks))
 
-    node_is : (r : Kind) → announced kind ≡ node r → seen ≡ Node → read_record kind rest l.so ≡ add_node r rest l.so (fields r)
+    node_is : (r : Kind) → announced kind ≡ node r → seen ≡ Ok Node → read_record kind rest l.so ≡ add_node r rest l.so (fields r)
     unfolding read_node
-    node_is r e h = step_node kind rest l.so r e (seen_is Node h)
+    node_is r e h = step_node kind rest l.so r e (seen_is (Ok Node) h)
 
-    pub node_bad : nk ≤ 512 → (row_at kind).class ≡ 3 → seen ≡ Node → (checking.fault ≡ 0 → ⊥) → read bytes ≡ refused checking.fault at
+    pub node_bad : (f : Fault) → nk ≤ 512 → (row_at kind).class ≡ 3 → seen ≡ Ok Node → checking.answer ≡ Err f → read bytes ≡ refused (number f) at
     unfolding row_at add_node
-    node_bad h c e f =
+    node_bad f h c e a =
         let w = class_node (announced kind) c in
-        go w.0 w.1 (fields w.0) refl (agree w.0 w.1 h)
+        go w.0 w.1 (fields w.0) refl (rw a at (agree w.0 w.1 h))
       where
-        go : (r : Kind) → announced kind ≡ node r → (d : Checked) → fields r ≡ d → Same checking d → read bytes ≡ refused checking.fault at
+        go : (r : Kind) → announced kind ≡ node r → (d : Checked) → fields r ≡ d → Says (Err f) checking.used d → read bytes ≡ refused (number f) at
         go r d (fault n) p q =
-            refused_at checking.fault (node_is r d e ∙ ap (add_node r rest l.so) p ∙ ap (λ (z : ℕ). stop (refused z l.so.at)) (sym q.0))
-        go r d (fine deep u) p q = absurd (f q.0)
+            refused_at (number f) (node_is r d e ∙ ap (add_node r rest l.so) p ∙ ap (λ (z : ℕ). stop (refused z l.so.at)) (sym q))
+        go r d (fine deep u) p q = absurd q
 
     -- what a node that is read on from was found to be
-    pub record Fine : Type 0 where
+    pub record Fine (deep : ℕ) : Type 0 where
       pub row : Kind
       pub is : announced kind ≡ node row
-      pub deep : ℕ
       pub used_by : Set
       pub checked : fields row ≡ fine deep used_by
-      pub same : Same checking (fine deep used_by)
+      pub marks : Marks checking.used used_by
 
-    fine_node : nk ≤ 512 → (row_at kind).class ≡ 3 → checking.fault ≡ 0 → Fine
+    fine_node : (deep : ℕ) → nk ≤ 512 → (row_at kind).class ≡ 3 → checking.answer ≡ Ok deep → Fine deep
     unfolding row_at
-    fine_node h c f =
+    fine_node deep h c a =
         let w = class_node (announced kind) c in
-        go w.0 w.1 (fields w.0) refl (agree w.0 w.1 h)
+        go w.0 w.1 (fields w.0) refl (rw a at (agree w.0 w.1 h))
       where
-        go : (r : Kind) → announced kind ≡ node r → (d : Checked) → fields r ≡ d → Same checking d → Fine
-        go r d (fault n) p q = absurd (let z : 0 < n = q.1 in let y : checking.fault ≡ n = q.0 in omega arith)
-        go r d (fine deep u) p q = record { row = r; is = d; deep = deep; used_by = u; checked = p; same = q }
+        go : (r : Kind) → announced kind ≡ node r → (d : Checked) → fields r ≡ d → Says (Ok deep) checking.used d → Fine deep
+        go r d (fault n) p q = absurd q
+        go r d (fine found u) p q = record { row = r; is = d; used_by = u; checked = p ∙ ap (λ (z : ℕ). fine z u) (sym q.0); marks = q.1 }
 
-    pub node_turn : nk < 512 → (row_at kind).class ≡ 3 → seen ≡ Node → checking.fault ≡ 0
-        → Looped bytes (at + 1 + body_bytes (announced kind)) begun nn (nk + 1) (set starts nk at) words table (set ks nk kind) (set ds nk (checking.deep + 1)) checking.used
+    pub node_turn : (deep : ℕ) → nk < 512 → (row_at kind).class ≡ 3 → seen ≡ Ok Node → checking.answer ≡ Ok deep
+        → Looped bytes (at + 1 + body_bytes (announced kind)) begun nn (nk + 1) (set starts nk at) words table (set ks nk kind) (set ds nk (deep + 1)) checking.used
     unfolding add_node body_bytes
-    node_turn h c e f =
-        let w = fine_node (omega arith) c f in
-        let next = after_node w.row rest w.deep w.used_by l.so in
-        let s : read_record kind rest l.so ≡ on (after_node w.row rest w.deep w.used_by l.so) =
+    node_turn deep h c e f =
+        let w = fine_node deep (omega arith) c f in
+        let next = after_node w.row rest deep w.used_by l.so in
+        let s : read_record kind rest l.so ≡ on (after_node w.row rest deep w.used_by l.so) =
         node_is w.row w.is e ∙ ap (add_node w.row rest l.so) w.checked in
         let short : body_bytes (announced kind) ≤ 6 = subst (λ (a : Announced). body_bytes a ≤ 6) (sym w.is) (known kind w.row w.is).short in
         let p = l.near in
@@ -300,16 +303,16 @@ module _ (bytes : List ℕ) (at : ℕ) (begun : Bool) (nn nk : ℕ) (starts : Li
         let dl = l.depths_long in
         let sl = l.starts_long in
         record {
-          so = after_node w.row rest w.deep w.used_by l.so;
+          so = after_node w.row rest deep w.used_by l.so;
           run = go_on next s;
           reached = next_reached next s;
           here = next_at next s;
           begun_is = l.begun_is;
           names_are = l.names_are;
           nn_is = l.nn_is;
-          nk_is = long_by_one l.so.nodes (seen_node w.row rest w.deep) ∙ ap (λ (z : ℕ). z + 1) k;
+          nk_is = long_by_one l.so.nodes (seen_node w.row rest deep) ∙ ap (λ (z : ℕ). z + 1) k;
           shows = shown w;
-          marks = w.same.2;
+          marks = w.marks;
           starts_are = λ i z. start_at (went_begun kind rest l.so w.row (went kind rest l.so next s) w.is) i z (dec_lt i nk);
           words_are = l.words_are;
           near = omega arith;
@@ -319,16 +322,15 @@ module _ (bytes : List ℕ) (at : ℕ) (begun : Bool) (nn nk : ℕ) (starts : Li
           depths_long = simp length-set dl;
         }
       where
-        shown : (w : Fine) → Shows (l.so.nodes ++ (seen_node w.row rest w.deep ∷ [])) (set ks nk kind) (set ds nk (checking.deep + 1))
+        shown : (w : Fine deep) → Shows (l.so.nodes ++ (seen_node w.row rest deep ∷ [])) (set ks nk kind) (set ds nk (deep + 1))
         shown w =
-            let N = l.so.nodes ++ (seen_node w.row rest w.deep ∷ []) in
+            let N = l.so.nodes ++ (seen_node w.row rest deep ∷ []) in
             let k = l.nk_is in
             let kl = l.kinds_long in
             let dl = l.depths_long in
-            subst (λ (z : ℕ). Shows N (set ks nk kind) (set ds nk (z + 1))) (sym w.same.1)
-            (subst (λ (z : ℕ). Shows N (set ks nk z) (set ds nk (w.deep + 1))) (known kind w.row w.is).numbered
-            (subst (λ (z : ℕ). Shows N (set ks z w.row.kind) (set ds z (w.deep + 1))) k
-            (put_shows l.so.nodes ks ds (seen_node w.row rest w.deep) l.shows (omega arith) (omega arith))))
+            subst (λ (z : ℕ). Shows N (set ks nk z) (set ds nk (deep + 1))) (known kind w.row w.is).numbered
+            (subst (λ (z : ℕ). Shows N (set ks z w.row.kind) (set ds z (deep + 1))) k
+            (put_shows l.so.nodes ks ds (seen_node w.row rest deep) l.shows (omega arith) (omega arith)))
 
         start_at : l.so.begun ≡ true → (i : ℕ) → i < nk + 1 → Dec (i < nk) → get_or (set starts nk at) i 0 ≡ start_of bytes nn i
         start_at g i z (yes d) = get_or-set_other starts nk i at 0 (λ g. omega arith) ∙ l.starts_are i d
@@ -338,25 +340,39 @@ module _ (bytes : List ℕ) (at : ℕ) (begun : Bool) (nn nk : ℕ) (starts : Li
             ap (λ (m : ℕ). get_or (set starts nk at) m 0) j ∙ get_or-set_same starts nk at 0 (omega arith) ∙ sym l.here ∙ l.reached.place g
             ∙ ap₂ (start_of bytes) l.nn_is l.nk_is ∙ ap (start_of bytes nn) (sym j)
 
-    -- the same where the code's answer is another name of what was found
-    pub node_turn_by : (m : Marked) → m ≡ checking → (r : ℕ) (ks_after ds_after used_after : List ℕ) → Added m kind nk ks ds r ks_after ds_after used_after
-        → nk < 512 → (row_at kind).class ≡ 3 → seen ≡ Node → r ≡ 0
-        → Looped bytes (at + 1 + body_bytes (announced kind)) begun nn (nk + 1) (set starts nk at) words table ks_after ds_after used_after
-    node_turn_by m e r ks_after ds_after used_after a h c d f =
-        rw (a.kind_put f, a.depth_put f, a.marks_put f, e) (node_turn h c d (sym (a.fault ∙ ap (λ (z : Marked). z.fault) e) ∙ f))
+    -- the same by what the code answered
+    module _ (r : Result (Unit {0}) Fault) (ks_after ds_after used_after : List ℕ) (a : Added checking kind nk ks ds r ks_after ds_after used_after) where
+      pub node_bad_by : (f : Fault) → nk ≤ 512 → (row_at kind).class ≡ 3 → seen ≡ Ok Node → r ≡ Err f → read bytes ≡ refused (number f) at
+      node_bad_by f h c e d = go checking.answer refl a
+        where
+          go : (x : Result ℕ Fault) → checking.answer ≡ x
+              → MatchResult x (λ deep. (r ≡ Ok tt) × (ks_after ≡ set ks nk kind) × (ds_after ≡ set ds nk (deep + 1)) × (used_after ≡ checking.used)) (λ f. r ≡ Err f)
+              → read bytes ≡ refused (number f) at
+          go (Ok deep) x p = absurd (let q = p.0 in cc)
+          go (Err g) x p = let y = sym p ∙ d in let q : g ≡ f = cc in node_bad f h c e (x ∙ ap (λ (z : Fault). Err z) q)
+
+      pub node_turn_by : nk < 512 → (row_at kind).class ≡ 3 → seen ≡ Ok Node → r ≡ Ok tt
+          → Looped bytes (at + 1 + body_bytes (announced kind)) begun nn (nk + 1) (set starts nk at) words table ks_after ds_after used_after
+      node_turn_by h c e d = go checking.answer refl a
+        where
+          go : (x : Result ℕ Fault) → checking.answer ≡ x
+              → MatchResult x (λ deep. (r ≡ Ok tt) × (ks_after ≡ set ks nk kind) × (ds_after ≡ set ds nk (deep + 1)) × (used_after ≡ checking.used)) (λ f. r ≡ Err f)
+              → Looped bytes (at + 1 + body_bytes (announced kind)) begun nn (nk + 1) (set starts nk at) words table ks_after ds_after used_after
+          go (Ok deep) x p = rw (p.1, p.2, p.3) (node_turn deep h c e x)
+          go (Err g) x p = absurd (cc)
 
     -- ---- the end record
 
-    end_is : seen ≡ End → read bytes ≡ read_end rest l.so
-    end_is e = stop_at (read_end rest l.so) (step_end kind rest l.so (seen_is End e))
+    end_is : seen ≡ Ok End → read bytes ≡ read_end rest l.so
+    end_is e = stop_at (read_end rest l.so) (step_end kind rest l.so (seen_is (Ok End) e))
 
-    pub end_verdict : nk ≤ 512 → seen ≡ End → ended_in rest at nn nk ks used ≡ verdict (read bytes)
+    pub end_verdict : nk ≤ 512 → seen ≡ Ok End → ended_in rest at nn nk ks used ≡ verdict (read bytes)
     end_verdict h e =
         ap (λ (z : ℕ). ended_in rest z nn nk ks used) (sym l.here) ∙ ap (λ (z : ℕ). ended_in rest l.so.at z nk ks used) (sym l.nn_is)
         ∙ ap (λ (z : ℕ). ended_in rest l.so.at (length l.so.names) z ks used) (sym l.nk_is)
         ∙ end_said rest l.so ks ds used l.shows l.marks (let k = l.nk_is in omega arith) ∙ sym (ap verdict (end_is e))
 
-    pub end_holds : seen ≡ End → (c : Contents) → read bytes ≡ accepted c → Holds bytes c starts words
+    pub end_holds : seen ≡ Ok End → (c : Contents) → read bytes ≡ accepted c → Holds bytes c starts words
     end_holds e c d =
         subst (λ (z : Contents). Holds bytes z starts words) (closed rest l.so c (sym (end_is e) ∙ d)).contents
         (record {

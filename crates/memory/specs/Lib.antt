@@ -1,5 +1,6 @@
 -- What the reader's arrays say of the lists that document 01's definitions speak of: for one record, and for all that were read.
 pub mod Rows
+pub mod Faults
 pub mod Fields
 pub mod Heads
 pub mod Ends

@@ -18,21 +18,31 @@ pub struct Row {
     pub at2: u8,
 }
 
-// What a kind byte, and how much follows it, say of a record.
-#[derive(Clone, Copy)]
+// Why bytes are turned away: each of document 01's refusals of the reader, with its number.
+#[derive(Clone, Copy, PartialEq, Eq, Debug)]
+pub enum Fault {
+    CutShort = 1,
+    OutOfOrder = 2,
+    OtherEdition = 3,
+    NotAName = 4,
+    NamesNotAscending = 5,
+    NoRoom = 6,
+    OutOfRange = 7,
+    NotBelow = 8,
+    WrongSort = 9,
+    TooDeep = 10,
+    ReferredTwice = 11,
+    WrongEnd = 12,
+    NotOneTree = 13,
+}
+
+// What a kind byte says of a record that may stand where it does and is there whole.
+#[derive(Clone, Copy, PartialEq, Eq, Debug)]
 pub enum Head {
-    Bad(u8),
     Format,
     Name,
     Node,
     End,
-}
-
-// What the fields of a record say: a fault's number or 0, and the depth of the deepest child. The nodes referred to are marked in a lent array.
-#[derive(Clone, Copy)]
-pub struct Told {
-    pub fault: u8,
-    pub deep: u8,
 }
 
 // What a walk over the records comes to: the verdict, and which names of the table are reserved. Where nodes start is put into a lent array.

@@ -3,24 +3,25 @@
 
 ghost use Rattle.std.specs.Prelude.{◌≡◌, length};
 ghost use Rattle.paper.specs.declared.Verdict.TheVariants.{Refused};
+ghost use Rattle.memory.specs.Faults.{number};
 ghost use Rattle.memory.specs.Starts.{Scan};
 
-use fields::add_node;
+use fields::Nodes;
 use heads::ends::ended;
 use heads::heads::head_of;
 use kinds::row_of;
-use memory::{Head, Scanned};
+use memory::{Fault, Head, Scanned};
 use names::Names;
 use octets::byte;
 use paper::Verdict;
 use table::{add_name, reserved_with};
 use words::copied;
 
-fn refused(number: u8, offset: usize, reserved: Names) -> Scanned
-    ensures { result.verdict ≡ Refused number offset }
+fn refused(fault: Fault, offset: usize, reserved: Names) -> Scanned
+    ensures { result.verdict ≡ Refused (number fault) offset }
 {
     let v = Verdict::Refused {
-        number: number,
+        number: fault as u8,
         offset: offset,
     };
     Scanned {
@@ -34,11 +35,12 @@ pub fn scan_records(bytes: &[u8], starts: &mut [u16; 512]) -> Scanned
     requires { length starts.old ≡ 512 }
     ensures { Scan bytes.now result starts.new }
 {
-    let blank = [0u8; 24];
-    let mut table = [blank; 128];
-    let mut kinds = [0u8; 512];
-    let mut depths = [0u8; 512];
-    let mut used = [0u8; 512];
+    let mut table = [[0u8; 24]; 128];
+    let mut nodes = Nodes {
+        kinds: [0u8; 512],
+        depths: [0u8; 512],
+        used: [0u8; 512],
+    };
     let mut reserved = Names::empty();
     let mut at: usize = 0;
     let mut begun = false;
@@ -50,37 +52,33 @@ pub fn scan_records(bytes: &[u8], starts: &mut [u16; 512]) -> Scanned
         let row = row_of(kind);
         let next = at + 1 + usize::from(row.len);
         match head_of(row, body.len(), begun, nn, nk) {
-            Head::Bad(number) => {
-                return refused(number, at, reserved);
-            }
-            Head::Format => {
+            Err(fault) => return refused(fault, at, reserved),
+            Ok(Head::Format) => {
                 if byte(body, 0) != 1 {
-                    return refused(3, at, reserved);
+                    return refused(Fault::OtherEdition, at, reserved);
                 }
                 begun = true;
                 at = next;
             }
-            Head::Name => {
+            Ok(Head::Name) => {
                 let n = copied(body);
-                let fault = add_name(n, &mut table, nn);
-                if fault != 0 {
+                if let Err(fault) = add_name(n, &mut table, nn) {
                     return refused(fault, at, reserved);
                 }
                 reserved = reserved_with(reserved, n, nn);
-                nn = nn + 1;
+                nn += 1;
                 at = next;
             }
-            Head::Node => {
-                let fault = add_node(body, kind, row, nn, nk, &mut kinds, &mut depths, &mut used);
-                if fault != 0 {
+            Ok(Head::Node) => {
+                if let Err(fault) = nodes.add(body, kind, row, nn, nk) {
                     return refused(fault, at, reserved);
                 }
                 starts[nk] = at as u16;
-                nk = nk + 1;
+                nk += 1;
                 at = next;
             }
-            Head::End => {
-                let v = ended(body, at, nn, nk, &kinds, &used);
+            Ok(Head::End) => {
+                let v = ended(body, at, nn, nk, &nodes.kinds, &nodes.used);
                 return Scanned {
                     verdict: v,
                     reserved: reserved,
@@ -88,5 +86,5 @@ pub fn scan_records(bytes: &[u8], starts: &mut [u16; 512]) -> Scanned
             }
         }
     }
-    refused(1, at, reserved)
+    refused(Fault::CutShort, at, reserved)
 }

@@ -6,33 +6,38 @@ ghost use Rattle.paper.specs.Sets.{◌∪◌};
 ghost use Rattle.names.specs.Words.{mem};
 ghost use Rattle.memory.specs.Naming.{named_in, reserved_as};
 
+use memory::Fault;
 use names::Names;
 use paper::NameNo;
 use words::{is_name, is_reserved, precedes};
 
-// The fault of a new name, or 0: 4 where it is none, 5 where it is not above the one before.
-fn named(n: [u8; 24], names: &[[u8; 24]; 128], count: usize) -> u8
+// Whether a new name is one, and above the one before.
+fn named(n: [u8; 24], names: &[[u8; 24]; 128], count: usize) -> Result<(), Fault>
     requires { count ≤ 128 }
     ensures { result ≡ named_in n names.now count }
 {
     if !is_name(n) {
-        return 4;
+        return Err(Fault::NotAName);
     }
     if count == 0 {
-        return 0;
+        return Ok(());
     }
     let last = names[count - 1];
-    if precedes(last, n) { 0 } else { 5 }
+    if precedes(last, n) {
+        Ok(())
+    } else {
+        Err(Fault::NamesNotAscending)
+    }
 }
 
-// The fault of a new name, or 0. It is put into the table in either case, since nothing is read after a fault.
-pub fn add_name(n: [u8; 24], names: &mut [[u8; 24]; 128], count: usize) -> u8
+// A new name is put into the table in either case, since nothing is read after a fault.
+pub fn add_name(n: [u8; 24], names: &mut [[u8; 24]; 128], count: usize) -> Result<(), Fault>
     requires { count < 128 }
     ensures { (result ≡ named_in n names.old count) × (names.new ≡ set names.old count n) }
 {
-    let fault = named(n, names, count);
+    let named = named(n, names, count);
     names[count] = n;
-    fault
+    named
 }
 
 // The reserved names, with the name of number x where it is a reserved word.

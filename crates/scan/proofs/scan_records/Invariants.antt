@@ -6,7 +6,7 @@ use Rattle.memory.proofs.ReadLaws.{Looped}
 use Rattle.scan.proofs.scan_records.Given as goal
 
 abbrev pub invariant-loop-at : goal.invariant-loop-at
-invariant-loop-at l = Looped l.bytes l.at l.begun l.nn l.nk l.starts l.reserved l.table l.kinds l.depths l.used
+invariant-loop-at l = Looped l.bytes l.at l.begun l.nn l.nk l.starts l.reserved l.table l.nodes.kinds l.nodes.depths l.nodes.used
 
 abbrev pub decreases-loop-at : goal.decreases-loop-at
 decreases-loop-at l = length l.bytes - l.at

@@ -5,13 +5,14 @@ use Prim.Native.Nat.{ℕ, ◌<◌, ◌≤◌}
 use native.Mathlib.Omega.{arith}
 use lib.Dec.{eqb, ltb, leb}
 use borrow.Author.Tests.{le-leb, lt-leb, eqb-true, ltb-true, leb-true}
+use Rattle.std.specs.Prelude.{Ok}
 use Rattle.memory.specs.declared.Row.{Row}
 use Rattle.memory.specs.declared.Head.TheVariants.{Node}
 use Rattle.memory.specs.Heads.{head_by, order_by, full_by, Headed}
 use Rattle.memory.proofs.Unnamed.{and_left, and_right}
 use Rattle.heads.proofs.heads.head_of.Goals as goal
 
-node : (row : Row) (left : ℕ) (begun : Bool) (names nodes : ℕ) → row.class ≡ 3 → begun ≡ true → nodes < 512 → row.len ≤ left → Headed row left begun names nodes Node
+node : (row : Row) (left : ℕ) (begun : Bool) (names nodes : ℕ) → row.class ≡ 3 → begun ≡ true → nodes < 512 → row.len ≤ left → Headed row left begun names nodes (Ok Node)
 unfolding head_by order_by full_by
 node row left begun names nodes c b n l = record { is = rw (c, b, le-leb _ _ l, lt-leb _ _ n); allows = (c, n) }
 
