@@ -6,12 +6,12 @@ use Prim.Native.Nat.{ℕ, ◌+◌, ◌*◌, ◌-◌, ◌<◌, ◌≤◌}
 use lib.ListN.{length, length-map, get_or}
 use borrow.Author.Tests.{le-leb, lt-leb}
 use native.Mathlib.Omega.{arith}
+use Rattle.std.specs.Prelude.{Ok, Err}
 use Rattle.paper.specs.declared.NodeNo.{NodeNo}
 use Rattle.paper.specs.declared.Node.{Node}
 use Rattle.paper.specs.declared.Finding.{Finding}
 use Rattle.names.specs.declared.Names.{Names}
-use Rattle.paper.specs.declared.Arithmetic.TheVariants as arith
-use Rattle.paper.specs.declared.Listing.TheVariants as listing
+use Rattle.paper.specs.declared.Unlisted.TheVariants.{NoRoom}
 use Rattle.paper.specs.Record.{pick, node_no}
 use Rattle.paper.specs.TurnedAway.{read}
 use Rattle.paper.specs.Sets.{Set, none}
@@ -32,7 +32,7 @@ use Rattle.record.specs.Stored.{contents, held, Has}
 use Rattle.record.proofs.Verdicts.{Told, counts_are}
 use Rattle.record.proofs.StoredLaws.{holds, formed}
 use Rattle.trees.specs.Trees.{condition_of}
-use Rattle.writes.specs.Written.{Room, Wrote, answer_of}
+use Rattle.writes.specs.Written.{Room, Wrote, first_of}
 use Rattle.writes.proofs.WriteLaws.{wrote_is, room_is}
 use Rattle.writes.proofs.FirstLaws.{first_told, all_told}
 use Rattle.scoping.specs.Scoped.{scoped}
@@ -124,16 +124,16 @@ module _ (bytes starts : List ℕ) {k : ℕ} (p : Ready bytes starts k) where
       part_room = room_is (sym (part_is check reserves)) (let l = part_length check in record { left = omega arith })
 
       pub part_told : {x count : ℕ} {after : List ℕ} → Wrote (part_of check i (condition_of columns i.0)) 0 count (x ∷ []) after
-          → answer_of count (get_or after 0 0) ≡ answered (part_asked check) (read bytes)
+          → Ok (first_of count (get_or after 0 0)) ≡ answered (part_asked check) (read bytes)
       unfolding answered
       part_told w =
           first_told (part_asked check (contents bytes)) (part_fits check) (wrote_is (sym (part_is check reserves)) w)
           ∙ sym (ap (answered (part_asked check)) told.outcome)
 
-    pub arithmetic_told : arithmetic bytes ≡ pick (has_arith (condition_of columns i.0)) arith.Yes arith.No
+    pub arithmetic_told : arithmetic bytes ≡ Ok (has_arith (condition_of columns i.0))
     unfolding arithmetic arithmetic_of root
     arithmetic_told =
-        ap arithmetic_of told.outcome ∙ ap (λ (c : Condition). pick (has_arith c) arith.Yes arith.No) (sym rooted)
+        ap arithmetic_of told.outcome ∙ ap (λ (c : Condition). Ok (has_arith c)) (sym rooted)
 
     module _ (words : Names) (reserves : Reserved bytes words) where
       -- the three parts
@@ -162,19 +162,19 @@ module _ (bytes starts : List ℕ) {k : ℕ} (p : Ready bytes starts k) where
         unfolding packed
         counted = let e = ap length list_parts in let f = length-map (the_list (contents bytes)) pack in let t = w.total in omega arith
 
-        pub list_without_room : length before < count → (listing.NoRoom count ≡ list bytes (length before)) × (after ≡ list_buffer bytes before)
+        pub list_without_room : length before < count → (Err (NoRoom count) ≡ list bytes (length before)) × (after ≡ list_buffer bytes before)
         unfolding list listing_of list_buffer buffer_of
         list_without_room h =
             let e = counted in
             let f = lt-leb (length (packed (contents bytes))) (length before) (omega arith) in
-            (rw (told.outcome, f) (ap listing.NoRoom e), rw (told.outcome, f) (w.kept h))
+            (rw (told.outcome, f) (ap (λ (n : ℕ). Err (NoRoom n)) e), rw (told.outcome, f) (w.kept h))
 
-        pub list_with_room : count ≤ length before → (listing.Listed count ≡ list bytes (length before)) × (after ≡ list_buffer bytes before)
+        pub list_with_room : count ≤ length before → (Ok count ≡ list bytes (length before)) × (after ≡ list_buffer bytes before)
         unfolding list listing_of list_buffer buffer_of packed
         list_with_room h =
             let e = counted in
             let f = le-leb (length (packed (contents bytes))) (length before) (omega arith) in (
-              rw (told.outcome, f) (ap listing.Listed e),
+              rw (told.outcome, f) (ap Ok e),
               rw (told.outcome, f)
                   (all_told (the_list (contents bytes)) (let g = length-map (the_list (contents bytes)) pack in omega arith) (wrote_is (sym list_parts) (w.wrote h))),
             )

@@ -1,8 +1,7 @@
 -- What a question hands on once the reader has accepted the bytes. Assumes nothing: these are definitions.
-use Rattle.std.specs.Prelude.{ℕ, ◌≡◌, List}
-use Rattle.paper.specs.declared.Verdict.TheVariants.{Counts}
+use Rattle.std.specs.Prelude.{ℕ, ◌≡◌, List, Ok}
 use Rattle.paper.specs.declared.Finding.{Finding}
-use Rattle.paper.specs.TurnedAway.{Contents, verdict, read}
+use Rattle.paper.specs.TurnedAway.{Contents, counts, verdict, read}
 use Rattle.paper.specs.Scoping.{reserved, scoping_part}
 use Rattle.paper.specs.Demands.{closedness_part, demands_part}
 use Rattle.names.specs.declared.Names.{Names}
@@ -14,12 +13,12 @@ use Rattle.listing.specs.declared.Check.TheVariants.{Scoping, Closedness, Demand
 -- the bytes are accepted with so many nodes, and the array has where each begins
 pub record Ready (bytes starts : List ℕ) (nodes : ℕ) : Type 0 where
   pub names : ℕ
-  pub counted : verdict (read bytes) ≡ Counts names nodes
+  pub counted : verdict (read bytes) ≡ Ok (counts names nodes)
   pub stored : Stored bytes starts
 
 -- and with so many names
 abbrev pub Counted : List ℕ → ℕ → ℕ → Type 0
-Counted bytes names nodes = verdict (read bytes) ≡ Counts names nodes
+Counted bytes names nodes = verdict (read bytes) ≡ Ok (counts names nodes)
 
 -- these are the reserved words among the bytes' names
 abbrev pub Reserved : List ℕ → Names → Type 0

@@ -1,7 +1,7 @@
 // What each question answers to bytes that the reader accepted: from here on the nodes are columns.
 #![tactic(auto)]
 
-ghost use Rattle.std.specs.Prelude.{◌≡◌, length, ◌+◌, ◌*◌, ◌-◌, ◌<◌, ◌≤◌};
+ghost use Rattle.std.specs.Prelude.{◌≡◌, length, ◌+◌, ◌*◌, ◌-◌, ◌<◌, ◌≤◌, Ok};
 ghost use Rattle.paper.specs.Record.{node_no};
 ghost use Rattle.paper.specs.TurnedAway.{read};
 ghost use Rattle.paper.specs.Questions.{answered, arithmetic as arithmetic_answer, list as list_answer, list_buffer};
@@ -11,8 +11,8 @@ use checks::arith::condition_has_arith;
 use columns::fill;
 use entries::part_entries;
 use listing::Check;
-use names::Names;
-use paper::{Answer, Arithmetic, Listing, NodeNo};
+use paper::{Counts, Finding, NodeNo, Unlisted};
+use record::reader::Reading;
 use whole::list_entries;
 use writes::first;
 
@@ -32,50 +32,43 @@ fn most_entries(names: usize, nodes: usize) -> usize
     3 * nodes + names * (nodes + 1)
 }
 
-// The first entry of the part that a check asks for; or accepted.
-pub fn answer_check(bytes: &[u8], starts: &[u16; 512], nodes: usize, check: Check) -> Answer
-    requires { Ready bytes.now starts.now nodes × ReservedFor bytes.now check }
-    ensures { result ≡ answered (part_asked check) (read bytes.now) }
+// The first entry of the part that a check asks for, if it has one.
+pub fn answer_check(bytes: &[u8], reading: &Reading, check: Check) -> Option<Finding>
+    requires { Ready bytes.now reading.now.starts reading.now.counts.nodes × ReservedFor bytes.now check }
+    ensures { Ok result ≡ answered (part_asked check) (read bytes.now) }
 {
+    let nodes = reading.counts.nodes;
     let mut columns = [0u64; 513];
-    fill(bytes, starts, nodes, &mut columns);
+    fill(bytes, &reading.starts, nodes, &mut columns);
     let mut one = [0u32; 1];
     let count = part_entries(&columns, root(nodes), check, &mut one);
     first(count, one[0])
 }
 
 // Whether arithmetic is an operand of a comparison.
-pub fn arithmetic(bytes: &[u8], starts: &[u16; 512], nodes: usize) -> Arithmetic
-    requires { Ready bytes.now starts.now nodes }
-    ensures { result ≡ arithmetic_answer bytes.now }
+pub fn arithmetic(bytes: &[u8], reading: &Reading) -> bool
+    requires { Ready bytes.now reading.now.starts reading.now.counts.nodes }
+    ensures { Ok result ≡ arithmetic_answer bytes.now }
 {
+    let nodes = reading.counts.nodes;
     let mut columns = [0u64; 513];
-    fill(bytes, starts, nodes, &mut columns);
-    if condition_has_arith(&columns, root(nodes)) {
-        return Arithmetic::Yes;
-    }
-    Arithmetic::No
+    fill(bytes, &reading.starts, nodes, &mut columns);
+    condition_has_arith(&columns, root(nodes))
 }
 
-// The entries needed, where the buffer has fewer; or the list, in the first entries of the buffer, and its length.
-pub fn list(
-    bytes: &[u8],
-    starts: &[u16; 512],
-    names: usize,
-    nodes: usize,
-    words: Names,
-    out: &mut [u32],
-) -> Listing
-    requires { Ready bytes.now starts.now nodes × Reserved bytes.now words × Counted bytes.now names nodes }
+// The list, in the first entries of the buffer, and its length; or the entries needed, where the buffer has fewer.
+pub fn list(bytes: &[u8], reading: &Reading, out: &mut [u32]) -> Result<usize, Unlisted>
+    requires { Ready bytes.now reading.now.starts reading.now.counts.nodes × Reserved bytes.now reading.now.reserved × Counted bytes.now reading.now.counts.names reading.now.counts.nodes }
     ensures { (result ≡ list_answer bytes.now (length out.old)) × (out.new ≡ list_buffer bytes.now out.old) }
 {
+    let Counts { names, nodes } = reading.counts;
     let mut columns = [0u64; 513];
-    fill(bytes, starts, nodes, &mut columns);
+    fill(bytes, &reading.starts, nodes, &mut columns);
     let room = out.len();
     let most = most_entries(names, nodes);
-    let count = list_entries(&columns, root(nodes), words, most, out);
+    let count = list_entries(&columns, root(nodes), reading.reserved, most, out);
     if room < count {
-        return Listing::NoRoom(count);
+        return Err(Unlisted::NoRoom { needed: count });
     }
-    Listing::Listed(count)
+    Ok(count)
 }

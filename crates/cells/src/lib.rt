@@ -9,7 +9,7 @@ ghost use Rattle.trees.specs.Trees.{binders_of};
 ghost use Rattle.writes.specs.Written.{Room, Wrote};
 
 use names::Names;
-use paper::{Finding, NodeNo, Slot, Subject};
+use paper::{Finding, NodeNo, Slot};
 use slots::{Binder, binder_at};
 use writes::put;
 
@@ -24,7 +24,7 @@ fn emit_cell(n: NodeNo, slot: Slot, rule: u8, s: Names, out: &mut [u32], at: usi
                 let f = Finding {
                     rule: rule,
                     node: n,
-                    name: Subject::Name(x),
+                    name: Some(x),
                 };
                 return put(out, at, f);
             }

@@ -1,11 +1,14 @@
 // The end record.
-ghost use Rattle.std.specs.Prelude.{◌≡◌, ◌≤◌};
+ghost use Rattle.std.specs.Prelude.{◌≡◌, ◌≤◌, Err};
 ghost use Rattle.paper.specs.Sets.{all_below};
+ghost use Rattle.paper.specs.TurnedAway.{refusal};
+ghost use Rattle.memory.specs.Faults.{number as number_of};
 ghost use Rattle.memory.specs.Ends.{marks, rooted_in, ended_in};
 
 use kinds::fits;
+use memory::Fault;
 use octets::number;
-use paper::Verdict;
+use paper::{Counts, Refusal};
 
 // Whether each of the first n nodes is marked. No branch depends on a mark, so that the compiler tests many at once.
 fn all_marked(used: &[u8; 512], n: usize) -> bool
@@ -19,13 +22,13 @@ fn all_marked(used: &[u8; 512], n: usize) -> bool
     all
 }
 
-fn turned_away(number: u8, offset: usize) -> Verdict
-    ensures { result ≡ Verdict.Refused number offset }
+fn turned_away(fault: Fault, offset: usize) -> Result<Counts, Refusal>
+    ensures { result ≡ Err (refusal (number_of fault) offset) }
 {
-    Verdict::Refused {
-        number: number,
-        offset: offset,
-    }
+    Err(Refusal {
+        number: fault as u8,
+        offset,
+    })
 }
 
 // 13, or the counts.
@@ -35,21 +38,18 @@ fn rooted<'a>(
     nodes: usize,
     kinds: &'a [u8; 512],
     used: &'a [u8; 512],
-) -> Verdict
+) -> Result<Counts, Refusal>
     requires { nodes ≤ 512 }
     ensures { result ≡ rooted_in at names nodes kinds.now used.now }
 {
     if nodes == 0 {
-        return turned_away(13, at);
+        return turned_away(Fault::NotOneTree, at);
     }
     let root = nodes - 1;
     if fits(1, kinds[root]) & all_marked(used, root) {
-        return Verdict::Counts {
-            names: names,
-            nodes: nodes,
-        };
+        return Ok(Counts { names, nodes });
     }
-    turned_away(13, at)
+    turned_away(Fault::NotOneTree, at)
 }
 
 // The end record: 12, then 13, or the counts.
@@ -60,12 +60,12 @@ pub fn ended<'a>(
     nodes: usize,
     kinds: &'a [u8; 512],
     used: &'a [u8; 512],
-) -> Verdict
+) -> Result<Counts, Refusal>
     requires { nodes ≤ 512 }
     ensures { result ≡ ended_in b.now at names nodes kinds.now used.now }
 {
     if (usize::from(number(b, 0)) == nodes) & (b.len() == 2) {
         return rooted(at, names, nodes, kinds, used);
     }
-    turned_away(12, at)
+    turned_away(Fault::WrongEnd, at)
 }

@@ -10,10 +10,9 @@ use native.Mathlib.Numerals.{add-one}
 use lib.Dec.{eqb}
 use lib.ListN.{length, take, drop, get_or, set, replicate, length-set, drop_of_length-le, get_or-append, get_or-eq_default, length-map}
 use lib.Seq.{drop-cons, drop-drop, take-suc-set, get_or-set_same, get_or-set_other}
-use Rattle.paper.specs.declared.Verdict.TheVariants.{Refused}
 use Rattle.paper.specs.Sets.{Set, none, ◌∪◌}
 use Rattle.paper.specs.Record.{byte, ascii, Kind, Announced, node, announced, body_bytes}
-use Rattle.paper.specs.TurnedAway.{Contents, Outcome, refused, accepted, verdict, Seen, unseen, SoFar, nothing_read, Checked, fault, fine, check_all, check_depth, Step, on, stop, read_format, add_node, read_node, read_end, read_record, read_on, read}
+use Rattle.paper.specs.TurnedAway.{Contents, Outcome, refused, accepted, verdict, Seen, unseen, SoFar, nothing_read, Checked, fault, fine, check_all, check_depth, Step, on, stop, read_format, add_node, read_node, read_end, read_record, read_on, read, refusal}
 use Rattle.paper.specs.Scoping.{is_word, is_reserved, reserved}
 use Rattle.paper.proofs.Runs.{after_format, after_name, after_node, seen_node, went, went_at, went_named, went_begun, refused_accepted, last_of, closed}
 use Rattle.names.specs.Words.{mem}
@@ -385,7 +384,7 @@ module _ (bytes : List ℕ) (at : ℕ) (begun : Bool) (nn nk : ℕ) (starts : Li
 
 -- ---- the answer
 
-pub refused_scan : (bytes : List ℕ) (r : Scanned) (starts : List ℕ) (n o : ℕ) → read bytes ≡ refused n o → r.verdict ≡ Refused n o → Scan bytes r starts
+pub refused_scan : (bytes : List ℕ) (r : Scanned) (starts : List ℕ) (n o : ℕ) → read bytes ≡ refused n o → r.verdict ≡ Err (refusal n o) → Scan bytes r starts
 unfolding verdict
 refused_scan bytes r starts n o e v =
     record { said = v ∙ sym (ap verdict e); held = λ c d. absurd (refused_accepted n o c (sym e ∙ d)) }

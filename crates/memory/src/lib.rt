@@ -2,7 +2,7 @@
 #![tactic(auto)]
 
 use names::Names;
-use paper::Verdict;
+use paper::{Counts, Refusal};
 
 // What a kind's record is made of. class: 0 nothing known, 1 the format record, 2 a name, 3 a node, 4 the end record. len: the bytes of the body.
 // range: what the first field is looked at for, 0 nothing, 1 a name's number, 2 an op of a comparison, 3 an op of arithmetic, 4 a slot. sort1 and
@@ -48,7 +48,7 @@ pub enum Head {
 // What a walk over the records comes to: the verdict, and which names of the table are reserved. Where nodes start is put into a lent array.
 #[derive(Clone, Copy)]
 pub struct Scanned {
-    pub verdict: Verdict,
+    pub verdict: Result<Counts, Refusal>,
     pub reserved: Names,
 }
 

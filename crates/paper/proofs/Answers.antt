@@ -11,19 +11,18 @@ use lib.Dec.{leb}
 use lib.ListN.{length, take, drop, length-append, length-drop, take-append-drop}
 use store.Seg.{take-pre, drop-pre}
 use borrow.Author.Tests.{leb-true, leb-false, le-leb}
+use Rattle.std.specs.Prelude.{Some, None, Ok, Err}
 use Rattle.paper.specs.declared.Finding.{Finding}
-use Rattle.paper.specs.declared.Answer.{Answer}
-use Rattle.paper.specs.declared.Answer.TheVariants as answer
-use Rattle.paper.specs.declared.Listing.{Listing}
-use Rattle.paper.specs.declared.Listing.TheVariants as listing
+use Rattle.paper.specs.declared.Refusal.{Refusal}
+use Rattle.paper.specs.declared.Unlisted.TheVariants.{NoRoom, Refused}
 use Rattle.paper.specs.Sets.{Set, none}
 use Rattle.paper.specs.Record.{pick}
-use Rattle.paper.specs.TurnedAway.{Contents, Outcome, refused, accepted, read}
+use Rattle.paper.specs.TurnedAway.{Contents, Outcome, refused, accepted, refusal, read}
 use Rattle.paper.specs.Places.{Exactly}
 use Rattle.paper.specs.Scoping.{ScopingUnmet, scoping_part}
 use Rattle.paper.specs.Demands.{ClosednessUnmet, closedness_part, DemandUnmet, demands_part}
 use Rattle.paper.specs.TheList.{the_list, packed}
-use Rattle.paper.specs.Questions.{first, answered, scoping, closedness, demands, listing_of, list, buffer_of, list_buffer}
+use Rattle.paper.specs.Questions.{Answer, Listing, first, answered, scoping, closedness, demands, listing_of, list, buffer_of, list_buffer}
 use Rattle.paper.proofs.Ascending.{exactly_one}
 use Rattle.paper.proofs.Walks.{nil_cons}
 use Rattle.paper.proofs.Exact.{scoping_exact, closedness_exact, demands_exact}
@@ -35,9 +34,9 @@ use Rattle.paper.proofs.Parts.{ruled, list_scoping, list_closedness, list_demand
 
 -- the answer accepts exactly when there is no entry, refuses with an entry exactly when that is the first, and is no refusal by the reader
 pub record Tells (entries : List Finding) (r : Answer) : Type 0 where
-  pub accepts : (r ≡ answer.Accepted) ↔ (entries ≡ [])
-  pub refuses : (f : Finding) → (r ≡ answer.Unmet f) ↔ ((rest : List Finding) × (entries ≡ f ∷ rest))
-  pub reads : (number offset : ℕ) → r ≡ answer.Refused number offset → ⊥
+  pub accepts : (r ≡ Ok None) ↔ (entries ≡ [])
+  pub refuses : (f : Finding) → (r ≡ Ok (Some f)) ↔ ((rest : List Finding) × (entries ≡ f ∷ rest))
+  pub reads : (refusal : Refusal) → r ≡ Err refusal → ⊥
 
 first_tells : (entries : List Finding) → Tells entries (first entries)
 unfolding first
@@ -45,16 +44,16 @@ first_tells [] =
     record {
       accepts = (λ e. refl, λ e. refl);
       refuses = λ f. (λ e. absurd (let z : ◌≡◌ {A = ℕ} 0 1 = cc in omega arith), λ w. absurd (nil_cons f w.0 w.1));
-      reads = λ number offset e. let z : ◌≡◌ {A = ℕ} 0 1 = cc in omega arith;
+      reads = λ refusal e. let z : ◌≡◌ {A = ℕ} 0 1 = cc in omega arith;
     }
 first_tells (g ∷ entries) =
     record {
       accepts = (λ e. absurd (let z : ◌≡◌ {A = ℕ} 0 1 = cc in omega arith), λ e. absurd (nil_cons g entries (sym e)));
-      refuses = λ f. (λ e. (entries, ap (λ (x : Finding). x ∷ entries) (same f e)), λ w. ap answer.Unmet (head-eq_of_cons-eq w.1));
-      reads = λ number offset e. let z : ◌≡◌ {A = ℕ} 0 1 = cc in omega arith;
+      refuses = λ f. (λ e. (entries, ap (λ (x : Finding). x ∷ entries) (same f e)), λ w. ap (λ (g : Finding). Ok (Some g)) (head-eq_of_cons-eq w.1));
+      reads = λ refusal e. let z : ◌≡◌ {A = ℕ} 0 1 = cc in omega arith;
     }
   where
-    same : (f : Finding) → answer.Unmet g ≡ answer.Unmet f → g ≡ f
+    same : (f : Finding) → ◌≡◌ {A = Answer} (Ok (Some g)) (Ok (Some f)) → g ≡ f
     same f e = cc
 
 pub answered_tells : (part : Contents → List Finding) (o : Outcome) (c : Contents) → o ≡ accepted c → Tells (part c) (answered part o)
@@ -87,9 +86,9 @@ list_tells bytes c e = (
 
 -- the first of two answers that does not accept
 abbrev pub or_else : Answer → Answer → Answer
-or_else answer.Accepted b = b
-or_else (answer.Unmet f) b = answer.Unmet f
-or_else (answer.Refused number offset) b = answer.Refused number offset
+or_else (Ok None) b = b
+or_else (Ok (Some f)) b = Ok (Some f)
+or_else (Err refusal) b = Err refusal
 
 first_append : (a b : List Finding) → first (a ++ b) ≡ or_else (first a) (first b)
 unfolding first
@@ -180,9 +179,9 @@ pub record TurnedBack (o : Outcome) (before after : List ℕ) (number offset : �
 
 -- what an answer says of the bytes, the buffer before and the buffer after
 abbrev pub Says : Outcome → List ℕ → List ℕ → Listing → Type 0
-Says o before after (listing.Listed count) = Success o before after count
-Says o before after (listing.NoRoom needed) = TooLong o before after needed
-Says o before after (listing.Refused number offset) = TurnedBack o before after number offset
+Says o before after (Ok count) = Success o before after count
+Says o before after (Err (NoRoom needed)) = TooLong o before after needed
+Says o before after (Err (Refused r)) = TurnedBack o before after r.number r.offset
 
 pub list_says : (bytes before : List ℕ) → Says (read bytes) before (list_buffer bytes before) (list bytes (length before))
 unfolding list list_buffer listing_of buffer_of
@@ -190,7 +189,7 @@ list_says bytes before = said (read bytes)
   where
     fitting : (c : Contents) (t : Bool) → leb (length (packed c)) (length before) ≡ t
         → Says (accepted c) before (pick t (packed c ++ drop (length (packed c)) before) before)
-        (pick t (listing.Listed (length (packed c))) (listing.NoRoom (length (packed c))))
+        (pick t (Ok (length (packed c))) (Err (NoRoom (length (packed c)))))
     fitting c true d =
         record {
           contents = c;
@@ -211,22 +210,22 @@ list_said : (bytes before : List ℕ) (r : Listing) → list bytes (length befor
 list_said bytes before r e = subst (Says (read bytes) before (list_buffer bytes before)) e (list_says bytes before)
 
 -- "Success returns the count and changes only that many entries, the first ones"
-pub list_success : (bytes before : List ℕ) (count : ℕ) → list bytes (length before) ≡ listing.Listed count
+pub list_success : (bytes before : List ℕ) (count : ℕ) → list bytes (length before) ≡ Ok count
     → Success (read bytes) before (list_buffer bytes before) count
-list_success bytes before count = list_said bytes before (listing.Listed count)
+list_success bytes before count = list_said bytes before (Ok count)
 
 -- "50, after them, returns the entries needed. None writes anything."
-pub list_too_long : (bytes before : List ℕ) (needed : ℕ) → list bytes (length before) ≡ listing.NoRoom needed
+pub list_too_long : (bytes before : List ℕ) (needed : ℕ) → list bytes (length before) ≡ Err (NoRoom needed)
     → TooLong (read bytes) before (list_buffer bytes before) needed
-list_too_long bytes before needed = list_said bytes before (listing.NoRoom needed)
+list_too_long bytes before needed = list_said bytes before (Err (NoRoom needed))
 
-pub list_turned_back : (bytes before : List ℕ) (number offset : ℕ) → list bytes (length before) ≡ listing.Refused number offset
+pub list_turned_back : (bytes before : List ℕ) (number offset : ℕ) → list bytes (length before) ≡ Err (Refused (refusal number offset))
     → TurnedBack (read bytes) before (list_buffer bytes before) number offset
-list_turned_back bytes before number offset = list_said bytes before (listing.Refused number offset)
+list_turned_back bytes before number offset = list_said bytes before (Err (Refused (refusal number offset)))
 
 -- and a list that there is room for is written
 pub list_writes : (bytes before : List ℕ) (c : Contents) → read bytes ≡ accepted c → length (packed c) ≤ length before
-    → (list bytes (length before) ≡ listing.Listed (length (packed c))) × (list_buffer bytes before ≡ packed c ++ drop (length (packed c)) before)
+    → (list bytes (length before) ≡ Ok (length (packed c))) × (list_buffer bytes before ≡ packed c ++ drop (length (packed c)) before)
 unfolding list list_buffer listing_of buffer_of
 list_writes bytes before c e h = let d = le-leb (length (packed c)) (length before) h in (rw (e, d), rw (e, d))
 
@@ -235,7 +234,7 @@ pub buffer_long : (bytes before : List ℕ) → length (list_buffer bytes before
 buffer_long bytes before = go (list bytes (length before)) (list_says bytes before)
   where
     go : (r : Listing) → Says (read bytes) before (list_buffer bytes before) r → length (list_buffer bytes before) ≡ length before
-    go (listing.Listed count) w =
+    go (Ok count) w =
         let a = ap length (take-append-drop count (list_buffer bytes before)) in
         let b = length-append (take count (list_buffer bytes before)) (drop count (list_buffer bytes before)) in
         let c = ap length w.written in
@@ -244,5 +243,5 @@ buffer_long bytes before = go (list bytes (length before)) (list_says bytes befo
         let f = w.fits in
         let g = w.counted in
         omega arith
-    go (listing.NoRoom needed) w = ap length w.unwritten
-    go (listing.Refused number offset) w = ap length w.unwritten
+    go (Err (NoRoom needed)) w = ap length w.unwritten
+    go (Err (Refused r)) w = ap length w.unwritten

@@ -6,19 +6,13 @@ use Prim.Native.String.{String}
 use mathlib.Core.Path.{◌≡◌, refl, ap}
 use mathlib.Core.List.{List, [], ◌∷◌, ◌++◌, map}
 use lib.ListN.{length, take, get_or, replicate}
-use Rattle.paper.specs.declared.Subject.TheVariants.{Name}
-use Rattle.paper.specs.declared.Answer.{Answer}
-use Rattle.paper.specs.declared.Answer.TheVariants.{Accepted, Unmet}
-use Rattle.paper.specs.declared.Arithmetic.{Arithmetic}
-use Rattle.paper.specs.declared.Arithmetic.TheVariants.{Yes, No}
-use Rattle.paper.specs.declared.Listing.{Listing}
-use Rattle.paper.specs.declared.Listing.TheVariants.{Listed}
-use Rattle.paper.specs.declared.Verdict.{Verdict}
-use Rattle.paper.specs.declared.Verdict.TheVariants.{Counts, Refused}
+use Rattle.std.specs.Prelude.{Some, None, Result, Ok, Err, true, false}
+use Rattle.paper.specs.declared.Counts.{Counts}
+use Rattle.paper.specs.declared.Refusal.{Refusal}
 use Rattle.paper.specs.Sets.{none, only, ◌∪◌, ◌∩◌, ◌∖◌, outside, all_below, members}
 use Rattle.paper.specs.Record.{Kind, zeros, name_rest, is_name, precedes, fits, field_bytes, body_length, two_bytes, value, values, slot_of, kinds, node_kind}
 use Rattle.paper.specs.Record.{announced, body_bytes, ascii, node_no, name_no}
-use Rattle.paper.specs.TurnedAway.{verdict, nothing_read, in_order, full, refer, in_range, check, check_all, check_depth, read_format, last_name, read_name}
+use Rattle.paper.specs.TurnedAway.{verdict, nothing_read, in_order, full, refer, in_range, check, check_all, check_depth, read_format, last_name, read_name, counts, refusal}
 use Rattle.paper.specs.TurnedAway.{add_node, read_node, read_end, read_body, read_record, read_on, read}
 use Rattle.paper.specs.Tree.{as_condition, as_term, as_arguments, as_items, as_binders, planted, trees, tree_at, root_no, root, size, term_size, arguments_size}
 use Rattle.paper.specs.Tree.{items_size, binders_size}
@@ -28,7 +22,7 @@ use Rattle.paper.specs.Places.{gather, at_cell, findings, spot_size, found_withi
 use Rattle.paper.specs.Scoping.{is_word, is_reserved, reserved, binder_sigil, cell_of, cells, scope_below, scope_broken, scoping_part}
 use Rattle.paper.specs.Demands.{closedness_broken, closedness_part, demands_part, demand_below, demand_broken, has_arith, operand_arith}
 use Rattle.paper.specs.TheList.{the_list, name_or_255, pack, packed, trimmed, name_text}
-use Rattle.paper.specs.Questions.{first, answered, scoping, closedness, demands, arithmetic_of, arithmetic, listing_of, list, buffer_of, list_buffer, name_of, name}
+use Rattle.paper.specs.Questions.{first, answered, scoping, closedness, demands, arithmetic_of, arithmetic, listing_of, list, buffer_of, list_buffer, name_of, name, Answer, Listing, Arithmetic}
 
 -- ---- the cases, as bytes
 
@@ -146,7 +140,7 @@ told bytes = record { listing = list bytes 6; buffer = list_buffer bytes (replic
 
 -- these entries, in this order, the rest of the buffer as it was, and this answer
 abbrev pub finds : List ℕ → List ℕ → Arithmetic → Told
-finds entries rest answer = record { listing = Listed (length entries); buffer = entries ++ rest; arith = answer }
+finds entries rest answer = record { listing = Ok (length entries); buffer = entries ++ rest; arith = answer }
 
 -- rule, node and name as document 01's number
 abbrev pub at : ℕ → ℕ → ℕ → ℕ
@@ -154,19 +148,19 @@ at rule node name = rule * 16777216 + node * 256 + name
 
 pub cases :
     map told (case_a ∷ case_b ∷ case_c ∷ case_d ∷ case_e ∷ case_f ∷ case_g ∷ case_h ∷ case_i ∷ case_j ∷ case_k ∷ case_l ∷ case_full ∷ [])
-    ≡ (finds (at 23 3 0 ∷ at 31 2 0 ∷ []) (7 ∷ 7 ∷ 7 ∷ 7 ∷ []) No
-    ∷ finds ([]) (7 ∷ 7 ∷ 7 ∷ 7 ∷ 7 ∷ 7 ∷ []) No
-    ∷ finds (at 30 4 0 ∷ []) (7 ∷ 7 ∷ 7 ∷ 7 ∷ 7 ∷ []) Yes
-    ∷ finds (at 23 9 0 ∷ []) (7 ∷ 7 ∷ 7 ∷ 7 ∷ 7 ∷ []) No
-    ∷ finds (at 23 5 0 ∷ at 31 4 0 ∷ []) (7 ∷ 7 ∷ 7 ∷ 7 ∷ []) No
-    ∷ finds (at 24 8 0 ∷ at 25 8 0 ∷ at 28 10 0 ∷ at 31 10 0 ∷ []) (7 ∷ 7 ∷ []) No
-    ∷ finds (at 26 2 0 ∷ at 27 2 0 ∷ []) (7 ∷ 7 ∷ 7 ∷ 7 ∷ []) No
-    ∷ finds ([]) (7 ∷ 7 ∷ 7 ∷ 7 ∷ 7 ∷ 7 ∷ []) No
-    ∷ finds (at 23 8 0 ∷ at 32 7 0 ∷ at 31 6 0 ∷ []) (7 ∷ 7 ∷ 7 ∷ []) No
-    ∷ finds (at 27 8 0 ∷ at 31 6 0 ∷ []) (7 ∷ 7 ∷ 7 ∷ 7 ∷ []) No
-    ∷ finds (at 22 4 0 ∷ []) (7 ∷ 7 ∷ 7 ∷ 7 ∷ 7 ∷ []) No
-    ∷ finds (at 28 2 0 ∷ at 28 2 1 ∷ at 31 2 0 ∷ at 31 2 1 ∷ []) (7 ∷ 7 ∷ []) No
-    ∷ finds (469764097 ∷ 520094209 ∷ []) (7 ∷ 7 ∷ 7 ∷ 7 ∷ []) No ∷ [])
+    ≡ (finds (at 23 3 0 ∷ at 31 2 0 ∷ []) (7 ∷ 7 ∷ 7 ∷ 7 ∷ []) (Ok false)
+    ∷ finds ([]) (7 ∷ 7 ∷ 7 ∷ 7 ∷ 7 ∷ 7 ∷ []) (Ok false)
+    ∷ finds (at 30 4 0 ∷ []) (7 ∷ 7 ∷ 7 ∷ 7 ∷ 7 ∷ []) (Ok true)
+    ∷ finds (at 23 9 0 ∷ []) (7 ∷ 7 ∷ 7 ∷ 7 ∷ 7 ∷ []) (Ok false)
+    ∷ finds (at 23 5 0 ∷ at 31 4 0 ∷ []) (7 ∷ 7 ∷ 7 ∷ 7 ∷ []) (Ok false)
+    ∷ finds (at 24 8 0 ∷ at 25 8 0 ∷ at 28 10 0 ∷ at 31 10 0 ∷ []) (7 ∷ 7 ∷ []) (Ok false)
+    ∷ finds (at 26 2 0 ∷ at 27 2 0 ∷ []) (7 ∷ 7 ∷ 7 ∷ 7 ∷ []) (Ok false)
+    ∷ finds ([]) (7 ∷ 7 ∷ 7 ∷ 7 ∷ 7 ∷ 7 ∷ []) (Ok false)
+    ∷ finds (at 23 8 0 ∷ at 32 7 0 ∷ at 31 6 0 ∷ []) (7 ∷ 7 ∷ 7 ∷ []) (Ok false)
+    ∷ finds (at 27 8 0 ∷ at 31 6 0 ∷ []) (7 ∷ 7 ∷ 7 ∷ 7 ∷ []) (Ok false)
+    ∷ finds (at 22 4 0 ∷ []) (7 ∷ 7 ∷ 7 ∷ 7 ∷ 7 ∷ []) (Ok false)
+    ∷ finds (at 28 2 0 ∷ at 28 2 1 ∷ at 31 2 0 ∷ at 31 2 1 ∷ []) (7 ∷ 7 ∷ []) (Ok false)
+    ∷ finds (469764097 ∷ 520094209 ∷ []) (7 ∷ 7 ∷ 7 ∷ 7 ∷ []) (Ok false) ∷ [])
 unfolding computed told
 cases = refl
 
@@ -174,14 +168,14 @@ cases = refl
 -- into arrays; an aggregate's own binders are not free; 23 is skipped under a sigil; 24 stands before 26; an aggregate's cells stand before its body
 pub slips :
     map told (case_m ∷ case_n ∷ case_o ∷ case_p ∷ case_q ∷ case_r ∷ case_s ∷ case_t ∷ [])
-    ≡ (finds (at 28 3 0 ∷ at 31 2 0 ∷ []) (7 ∷ 7 ∷ 7 ∷ 7 ∷ []) No
-    ∷ finds (at 24 6 0 ∷ []) (7 ∷ 7 ∷ 7 ∷ 7 ∷ 7 ∷ []) No
-    ∷ finds (at 23 9 0 ∷ []) (7 ∷ 7 ∷ 7 ∷ 7 ∷ 7 ∷ []) No
-    ∷ finds (at 21 2 255 ∷ []) (7 ∷ 7 ∷ 7 ∷ 7 ∷ 7 ∷ []) No
-    ∷ finds ([]) (7 ∷ 7 ∷ 7 ∷ 7 ∷ 7 ∷ 7 ∷ []) No
-    ∷ finds ([]) (7 ∷ 7 ∷ 7 ∷ 7 ∷ 7 ∷ 7 ∷ []) No
-    ∷ finds (at 24 3 0 ∷ at 26 2 1 ∷ at 27 2 1 ∷ []) (7 ∷ 7 ∷ 7 ∷ []) No
-    ∷ finds (at 26 7 0 ∷ at 27 7 0 ∷ at 21 2 255 ∷ []) (7 ∷ 7 ∷ 7 ∷ []) No ∷ [])
+    ≡ (finds (at 28 3 0 ∷ at 31 2 0 ∷ []) (7 ∷ 7 ∷ 7 ∷ 7 ∷ []) (Ok false)
+    ∷ finds (at 24 6 0 ∷ []) (7 ∷ 7 ∷ 7 ∷ 7 ∷ 7 ∷ []) (Ok false)
+    ∷ finds (at 23 9 0 ∷ []) (7 ∷ 7 ∷ 7 ∷ 7 ∷ 7 ∷ []) (Ok false)
+    ∷ finds (at 21 2 255 ∷ []) (7 ∷ 7 ∷ 7 ∷ 7 ∷ 7 ∷ []) (Ok false)
+    ∷ finds ([]) (7 ∷ 7 ∷ 7 ∷ 7 ∷ 7 ∷ 7 ∷ []) (Ok false)
+    ∷ finds ([]) (7 ∷ 7 ∷ 7 ∷ 7 ∷ 7 ∷ 7 ∷ []) (Ok false)
+    ∷ finds (at 24 3 0 ∷ at 26 2 1 ∷ at 27 2 1 ∷ []) (7 ∷ 7 ∷ 7 ∷ []) (Ok false)
+    ∷ finds (at 26 7 0 ∷ at 27 7 0 ∷ at 21 2 255 ∷ []) (7 ∷ 7 ∷ 7 ∷ []) (Ok false) ∷ [])
 unfolding computed told
 slips = refl
 
@@ -200,7 +194,7 @@ unfoldable pub nested : ℕ → List ℕ
 nested zero = 0x1B ∷ 0 ∷ 0 ∷ []
 nested (suc k) = nested k ++ (0x12 ∷ k ∷ 0 ∷ [])
 
-unfoldable pub verdict_on : List ℕ → Verdict
+unfoldable pub verdict_on : List ℕ → Result Counts Refusal
 verdict_on bytes = verdict (read bytes)
 
 pub turned_away :
@@ -233,33 +227,33 @@ pub turned_away :
     ∷ nodes (0x21 ∷ 0x7F ∷ 1 ∷ 0 ∷ [])
     ∷ nodes (0x1B ∷ 0 ∷ 0 ∷ 0x1B ∷ 0 ∷ 0 ∷ 0x7F ∷ 2 ∷ 0 ∷ [])
     ∷ [])
-    ≡ (Refused 1 0
-    ∷ Refused 1 0
-    ∷ Refused 1 2
-    ∷ Refused 1 2
-    ∷ Refused 1 5
-    ∷ Refused 2 0
-    ∷ Refused 2 2
-    ∷ Refused 2 2
-    ∷ Refused 2 3
-    ∷ Refused 3 0
-    ∷ Refused 4 2
-    ∷ Refused 5 27
-    ∷ Refused 5 27
-    ∷ Refused 6 3202
-    ∷ Refused 6 514
-    ∷ Refused 7 2
-    ∷ Refused 7 4
-    ∷ Refused 7 2
-    ∷ Refused 8 2
-    ∷ Refused 9 3
-    ∷ Refused 10 194
-    ∷ Refused 11 5
-    ∷ Refused 12 5
-    ∷ Refused 12 5
-    ∷ Refused 13 2
-    ∷ Refused 13 3
-    ∷ Refused 13 8
+    ≡ (Err (refusal 1 0)
+    ∷ Err (refusal 1 0)
+    ∷ Err (refusal 1 2)
+    ∷ Err (refusal 1 2)
+    ∷ Err (refusal 1 5)
+    ∷ Err (refusal 2 0)
+    ∷ Err (refusal 2 2)
+    ∷ Err (refusal 2 2)
+    ∷ Err (refusal 2 3)
+    ∷ Err (refusal 3 0)
+    ∷ Err (refusal 4 2)
+    ∷ Err (refusal 5 27)
+    ∷ Err (refusal 5 27)
+    ∷ Err (refusal 6 3202)
+    ∷ Err (refusal 6 514)
+    ∷ Err (refusal 7 2)
+    ∷ Err (refusal 7 4)
+    ∷ Err (refusal 7 2)
+    ∷ Err (refusal 8 2)
+    ∷ Err (refusal 9 3)
+    ∷ Err (refusal 10 194)
+    ∷ Err (refusal 11 5)
+    ∷ Err (refusal 12 5)
+    ∷ Err (refusal 12 5)
+    ∷ Err (refusal 13 2)
+    ∷ Err (refusal 13 3)
+    ∷ Err (refusal 13 8)
     ∷ [])
 unfolding computed many_names nested verdict_on
 turned_away = refl
@@ -274,9 +268,9 @@ body_lengths = refl
 -- ---- what single cases are answered, for whoever shuts out a wrong version by them
 
 abbrev pub unmet : ℕ → ℕ → ℕ → Answer
-unmet rule node name = Unmet (record { rule = rule; node = node_no node; name = Name (name_no name) })
+unmet rule node name = Ok (Some (record { rule = rule; node = node_no node; name = Some (name_no name) }))
 
-pub scoping_b : scoping case_b none ≡ Accepted
+pub scoping_b : scoping case_b none ≡ Ok None
 unfolding computed scoping answered first
 scoping_b = refl
 
@@ -284,7 +278,7 @@ pub scoping_f : scoping case_f none ≡ unmet 24 8 0
 unfolding computed scoping answered first
 scoping_f = refl
 
-pub closedness_b : closedness case_b ≡ Accepted
+pub closedness_b : closedness case_b ≡ Ok None
 unfolding computed closedness answered first
 closedness_b = refl
 
@@ -292,7 +286,7 @@ pub closedness_full : closedness case_full ≡ unmet 28 8 1
 unfolding computed closedness answered first
 closedness_full = refl
 
-pub demands_b : demands case_b ≡ Accepted
+pub demands_b : demands case_b ≡ Ok None
 unfolding computed demands answered first
 demands_b = refl
 
@@ -300,7 +294,7 @@ pub demands_full : demands case_full ≡ unmet 31 2 1
 unfolding computed demands answered first
 demands_full = refl
 
-pub verdict_b : verdict (read case_b) ≡ Counts 1 7
+pub verdict_b : verdict (read case_b) ≡ Ok (counts 1 7)
 unfolding computed
 verdict_b = refl
 
@@ -318,14 +312,14 @@ pub as_told : (bytes : List ℕ) (t : Told) → told bytes ≡ t
 unfolding told
 as_told bytes t e = (ap (λ (z : Told). z.listing) e, ap (λ (z : Told). z.buffer) e, ap (λ (z : Told). z.arith) e)
 
-pub told_b : told case_b ≡ finds [] (7 ∷ 7 ∷ 7 ∷ 7 ∷ 7 ∷ 7 ∷ []) No
+pub told_b : told case_b ≡ finds [] (7 ∷ 7 ∷ 7 ∷ 7 ∷ 7 ∷ 7 ∷ []) (Ok false)
 told_b = ap (λ (l : List Told). get_or l 1 (told [])) cases
 
-pub told_c : told case_c ≡ finds (at 30 4 0 ∷ []) (7 ∷ 7 ∷ 7 ∷ 7 ∷ 7 ∷ []) Yes
+pub told_c : told case_c ≡ finds (at 30 4 0 ∷ []) (7 ∷ 7 ∷ 7 ∷ 7 ∷ 7 ∷ []) (Ok true)
 told_c = ap (λ (l : List Told). get_or l 2 (told [])) cases
 
-pub told_f : told case_f ≡ finds (at 24 8 0 ∷ at 25 8 0 ∷ at 28 10 0 ∷ at 31 10 0 ∷ []) (7 ∷ 7 ∷ []) No
+pub told_f : told case_f ≡ finds (at 24 8 0 ∷ at 25 8 0 ∷ at 28 10 0 ∷ at 31 10 0 ∷ []) (7 ∷ 7 ∷ []) (Ok false)
 told_f = ap (λ (l : List Told). get_or l 5 (told [])) cases
 
-pub told_full : told case_full ≡ finds (469764097 ∷ 520094209 ∷ []) (7 ∷ 7 ∷ 7 ∷ 7 ∷ []) No
+pub told_full : told case_full ≡ finds (469764097 ∷ 520094209 ∷ []) (7 ∷ 7 ∷ 7 ∷ 7 ∷ []) (Ok false)
 told_full = ap (λ (l : List Told). get_or l 12 (told [])) cases

@@ -2,7 +2,7 @@
 -- broken there find only what is fine. Assumes nothing.
 use mathlib.Core.List.{List, [], ◌∷◌, map}
 use Prim.Native.Nat.{ℕ, ◌<◌}
-use Rattle.paper.specs.declared.Subject.TheVariants.{Name, NoName}
+use Rattle.std.specs.Prelude.{Some, None}
 use Rattle.paper.specs.declared.Finding.{Finding}
 use Rattle.paper.specs.Record.{name_no}
 use Rattle.paper.specs.Sets.{Set, none, members}
@@ -30,9 +30,9 @@ all_of_map C f (x ∷ l) a = (a.0, all_of_map C f l a.1)
 module _ (Fine : Finding → Type 0) where
   -- it finds only what is fine, whichever names are in its set
   abbrev pub Finds : Broken → Type 0
-  Finds (itself r n) = Fine (record { rule = r; node = n; name = NoName })
-  Finds (for_names r n s) = (x : ℕ) → x < 128 → Fine (record { rule = r; node = n; name = Name (name_no x) })
-  Finds (at_cells r s cs) = All (λ c. Fine (record { rule = r; node = c.node; name = Name c.name })) cs
+  Finds (itself r n) = Fine (record { rule = r; node = n; name = None })
+  Finds (for_names r n s) = (x : ℕ) → x < 128 → Fine (record { rule = r; node = n; name = Some (name_no x) })
+  Finds (at_cells r s cs) = All (λ c. Fine (record { rule = r; node = c.node; name = Some c.name })) cs
 
   pub findings_all : (b : Broken) → Finds b → All Fine (findings b)
   unfolding findings gather at_cell

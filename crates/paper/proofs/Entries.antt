@@ -18,8 +18,8 @@ use Prim.Native.Nat.{ℕ, zero, suc, ◌+◌, ◌<◌, ◌≤◌}
 use native.Mathlib.Omega.{arith}
 use native.Mathlib.Nat.{eq-or-lt_of_le, add-zero}
 use lib.ListN.{get_elem?}
+use Rattle.std.specs.Prelude.{Some, None}
 use Rattle.paper.specs.declared.Finding.{Finding}
-use Rattle.paper.specs.declared.Subject.TheVariants.{Name, NoName}
 use Rattle.paper.specs.Sets.{Set, members}
 use Rattle.paper.specs.Record.{pick, name_no}
 use Rattle.paper.specs.Places.{Entry, entry, Cell, Broken, itself, for_names, at_cells, Breaks, Earlier, Ascending, gather, at_cell, findings}
@@ -63,7 +63,7 @@ members_asc f (suc k) =
 -- ---- the cells of a list, from position i on
 
 abbrev one_cell : ℕ → ℕ → Cell → Bool → List Entry
-one_cell r i c b = pick b (entry r i c.node (Name c.name) ∷ []) []
+one_cell r i c b = pick b (entry r i c.node (Some c.name) ∷ []) []
 
 abbrev cell_entries : ℕ → Set → ℕ → List Cell → List Entry
 cell_entries r s i [] = []
@@ -71,9 +71,9 @@ cell_entries r s i (c ∷ cs) = one_cell r i c (s c.name.0) ++ cell_entries r s 
 
 abbrev OfCell : ℕ → Set → ℕ → List Cell → Entry → Type 0
 OfCell r s i cs e =
-    (j : ℕ) × (c : Cell) × (get_elem? cs j ≡ some c) × (s c.name.0 ≡ true) × (e ≡ entry r (i + j) c.node (Name c.name))
+    (j : ℕ) × (c : Cell) × (get_elem? cs j ≡ some c) × (s c.name.0 ≡ true) × (e ≡ entry r (i + j) c.node (Some c.name))
 
-one_get : (r i : ℕ) (c : Cell) (b : Bool) (e : Entry) → Memᴰ e (one_cell r i c b) → (b ≡ true) × (e ≡ entry r i c.node (Name c.name))
+one_get : (r i : ℕ) (c : Cell) (b : Bool) (e : Entry) → Memᴰ e (one_cell r i c b) → (b ≡ true) × (e ≡ entry r i c.node (Some c.name))
 one_get r i c true e m = (refl, Memᴰ.eq_of_singleton m)
 one_get r i c false e m = absurd (Memᴰ.not-nil m)
 
@@ -83,14 +83,14 @@ cells_get r s i (c ∷ cs) e m =
     ⊎_elim
     (λ u.
     let w = one_get r i c (s c.name.0) e u in
-    (0, c, refl, w.0, w.1 ∙ ap (λ (k : ℕ). entry r k c.node (Name c.name)) (sym (add-zero i))))
+    (0, c, refl, w.0, w.1 ∙ ap (λ (k : ℕ). entry r k c.node (Some c.name)) (sym (add-zero i))))
     (λ u.
     let w = cells_get r s (suc i) cs e u in
     let q : suc i + w.0 ≡ i + suc w.0 = omega arith in
-    (suc w.0, w.1, w.2, w.3, w.4 ∙ ap (λ (k : ℕ). entry r k w.1.node (Name w.1.name)) q))
+    (suc w.0, w.1, w.2, w.3, w.4 ∙ ap (λ (k : ℕ). entry r k w.1.node (Some w.1.name)) q))
     (Memᴰ.append_cases (one_cell r i c (s c.name.0)) m)
 
-one_put : (r i : ℕ) (c : Cell) (b : Bool) → b ≡ true → Memᴰ (entry r i c.node (Name c.name)) (one_cell r i c b)
+one_put : (r i : ℕ) (c : Cell) (b : Bool) → b ≡ true → Memᴰ (entry r i c.node (Some c.name)) (one_cell r i c b)
 one_put r i c true e = Memᴰ.head refl
 one_put r i c false e = let z : ◌≡◌ {A = ℕ} 0 1 = cc in absurd (omega arith)
 
@@ -101,17 +101,17 @@ none_some : {A : Type 0} (a : A) → ◌≡◌ {A = Option A} nothing (some a) �
 none_some a e = let z : ◌≡◌ {A = ℕ} 0 1 = cc in omega arith
 
 cells_put : (r : ℕ) (s : Set) (i : ℕ) (cs : List Cell) (j : ℕ) (c : Cell) → get_elem? cs j ≡ some c → s c.name.0 ≡ true
-    → Memᴰ (entry r (i + j) c.node (Name c.name)) (cell_entries r s i cs)
+    → Memᴰ (entry r (i + j) c.node (Some c.name)) (cell_entries r s i cs)
 cells_put r s i [] j c g t = absurd (none_some c g)
 cells_put r s i (d ∷ cs) zero c g t =
     let e : d ≡ c = some_eq d c g in
     Memᴰ.append_left _
-    (Memᴰ.cast (ap (λ (k : ℕ). entry r k c.node (Name c.name)) (add-zero i))
-    (subst (λ (z : Cell). Memᴰ (entry r i c.node (Name c.name)) (one_cell r i z (s z.name.0))) (sym e) (one_put r i c (s c.name.0) t)))
+    (Memᴰ.cast (ap (λ (k : ℕ). entry r k c.node (Some c.name)) (add-zero i))
+    (subst (λ (z : Cell). Memᴰ (entry r i c.node (Some c.name)) (one_cell r i z (s z.name.0))) (sym e) (one_put r i c (s c.name.0) t)))
 cells_put r s i (d ∷ cs) (suc j) c g t =
     let q : i + suc j ≡ suc i + j = omega arith in
     Memᴰ.append_right (one_cell r i d (s d.name.0))
-    (Memᴰ.cast (ap (λ (k : ℕ). entry r k c.node (Name c.name)) q) (cells_put r s (suc i) cs j c g t))
+    (Memᴰ.cast (ap (λ (k : ℕ). entry r k c.node (Some c.name)) q) (cells_put r s (suc i) cs j c g t))
 
 one_asc : (r i : ℕ) (c : Cell) (b : Bool) → Ascending Earlier (one_cell r i c b)
 one_asc r i c true = (λ x m. absurd (Memᴰ.not-nil m), tt)
@@ -133,8 +133,8 @@ cells_asc r s i (c ∷ cs) =
 -- ---- a broken rule
 
 pub entries : Broken → List Entry
-entries (itself r n) = entry r 0 n NoName ∷ []
-entries (for_names r n s) = map (λ (x : ℕ). entry r x n (Name (name_no x))) (members s 128)
+entries (itself r n) = entry r 0 n None ∷ []
+entries (for_names r n s) = map (λ (x : ℕ). entry r x n (Some (name_no x))) (members s 128)
 entries (at_cells r s cs) = cell_entries r s 0 cs
 
 abbrev pub rule_of : Broken → ℕ
@@ -149,20 +149,20 @@ pub entries_get : (b : Broken) (e : Entry) → Memᴰ e (entries b) → Breaks b
 unfolding entries
 entries_get (itself r n) e m = Memᴰ.eq_of_singleton m
 entries_get (for_names r n s) e m =
-    let w = Memᴰ.of_map (λ (x : ℕ). entry r x n (Name (name_no x))) (members s 128) m in
+    let w = Memᴰ.of_map (λ (x : ℕ). entry r x n (Some (name_no x))) (members s 128) m in
     let g = members_get s 128 w.0 w.1 in
     (w.0, g.0, g.1, sym w.2)
 entries_get (at_cells r s cs) e m =
     let w = cells_get r s 0 cs e m in
-    (w.0, w.1, w.2, w.3, w.4 ∙ ap (λ (k : ℕ). entry r k w.1.node (Name w.1.name)) (zero_plus w.0))
+    (w.0, w.1, w.2, w.3, w.4 ∙ ap (λ (k : ℕ). entry r k w.1.node (Some w.1.name)) (zero_plus w.0))
 
 pub entries_put : (b : Broken) (e : Entry) → Breaks b e → Memᴰ e (entries b)
 unfolding entries
 entries_put (itself r n) e h = Memᴰ.head h
 entries_put (for_names r n s) e h =
-    Memᴰ.cast h.3 (Memᴰ.map (λ (x : ℕ). entry r x n (Name (name_no x))) (members_put s 128 h.0 h.1 h.2))
+    Memᴰ.cast h.3 (Memᴰ.map (λ (x : ℕ). entry r x n (Some (name_no x))) (members_put s 128 h.0 h.1 h.2))
 entries_put (at_cells r s cs) e h =
-    Memᴰ.cast (h.4 ∙ ap (λ (k : ℕ). entry r k h.1.node (Name h.1.name)) (sym (zero_plus h.0))) (cells_put r s 0 cs h.0 h.1 h.2 h.3)
+    Memᴰ.cast (h.4 ∙ ap (λ (k : ℕ). entry r k h.1.node (Some h.1.name)) (sym (zero_plus h.0))) (cells_put r s 0 cs h.0 h.1 h.2 h.3)
 
 pub entries_rule : (b : Broken) (e : Entry) → Memᴰ e (entries b) → e.finding.rule ≡ rule_of b
 entries_rule b e m = rule b (entries_get b e m)
@@ -176,7 +176,7 @@ pub entries_asc : (b : Broken) → Ascending Earlier (entries b)
 unfolding entries
 entries_asc (itself r n) = (λ x m. absurd (Memᴰ.not-nil m), tt)
 entries_asc (for_names r n s) =
-    asc_map ◌<◌ Earlier (λ (x : ℕ). entry r x n (Name (name_no x))) (λ x y h. inr (refl, h)) (members s 128) (members_asc s 128)
+    asc_map ◌<◌ Earlier (λ (x : ℕ). entry r x n (Some (name_no x))) (λ x y h. inr (refl, h)) (members s 128) (members_asc s 128)
 entries_asc (at_cells r s cs) = cells_asc r s 0 cs
 
 cell_findings : (r : ℕ) (s : Set) (i : ℕ) (cs : List Cell) → map (λ (e : Entry). e.finding) (cell_entries r s i cs) ≡ gather (at_cell r s) cs
@@ -186,7 +186,7 @@ cell_findings r s i (c ∷ cs) =
     map-append (λ (e : Entry). e.finding) (one_cell r i c (s c.name.0)) (cell_entries r s (suc i) cs)
     ∙ ap₂ {C = List Finding} ◌++◌ (one (s c.name.0)) (cell_findings r s (suc i) cs)
   where
-    one : (b : Bool) → map (λ (e : Entry). e.finding) (one_cell r i c b) ≡ pick b (record { rule = r; node = c.node; name = Name c.name } ∷ []) []
+    one : (b : Bool) → map (λ (e : Entry). e.finding) (one_cell r i c b) ≡ pick b (record { rule = r; node = c.node; name = Some c.name } ∷ []) []
     one true = refl
     one false = refl
 

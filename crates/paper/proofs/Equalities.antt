@@ -5,10 +5,9 @@ use mathlib.Core.Path.{◌≡◌, refl, sym, ◌∙◌}
 use mathlib.Core.Bool.{Bool, true, false, ◌||◌, true≢false}
 use mathlib.Core.List.{[], ◌∷◌, map}
 use native.Mathlib.Omega.{arith}
+use Rattle.std.specs.Prelude.{Option, Some, None}
 use Rattle.paper.specs.declared.NodeNo.{NodeNo}
 use Rattle.paper.specs.declared.NameNo.{NameNo}
-use Rattle.paper.specs.declared.Subject.{Subject}
-use Rattle.paper.specs.declared.Subject.TheVariants.{Name, NoName}
 use Rattle.paper.specs.declared.Reason.{Reason}
 use Rattle.paper.specs.declared.Reason.TheVariants as reason
 use Rattle.paper.specs.declared.Equality.{Equality}
@@ -113,7 +112,7 @@ broken_cases P n o l r names of_left of_right of_other = go (is_equality o) (equ
 
 -- ---- document 01's binding equality
 
-pub no_name : {x : NameNo} → NoName ≡ Name x → ⊥
+pub no_name : {x : NameNo} → None ≡ Some x → ⊥
 no_name e = let z : ◌≡◌ {A = ℕ} 0 1 = cc in omega arith
 
 -- "a wildcard or arithmetic containing one at any depth through arithmetic and arrays", each the reason of its name
@@ -123,20 +122,20 @@ pub data Open : Reason → Term → Type 0 where
 
 -- "an equality with exactly one bare variable gives it, unless the other side is .."
 pub record Binding (variable other : Term) (x : NameNo) : Type 0 where
-  pub is_bare : bare variable ≡ Name x
-  pub exactly_one : bare other ≡ NoName
+  pub is_bare : bare variable ≡ Some x
+  pub exactly_one : bare other ≡ None
   pub unless_open : (why : Reason) → Open why other → ⊥
 
 -- one side is a bare variable, and the other is open
 pub data Opposed (why : Reason) (l r : Term) : Type 0 where
-  on_right : {x : NameNo} → bare l ≡ Name x → Open why r → Opposed why l r
-  on_left : {x : NameNo} → bare r ≡ Name x → Open why l → Opposed why l r
+  on_right : {x : NameNo} → bare l ≡ Some x → Open why r → Opposed why l r
+  on_left : {x : NameNo} → bare r ≡ Some x → Open why l → Opposed why l r
 
 abbrev pub Means : Term → Term → Equality → Type 0
 Means l r (Left x) = Binding l r x
 Means l r (Right x) = Binding r l x
-Means l r (Nothing reason.BothBare) = (x : NameNo) × (y : NameNo) × (bare l ≡ Name x) × (bare r ≡ Name y)
-Means l r (Nothing reason.NeitherBare) = (bare l ≡ NoName) × (bare r ≡ NoName)
+Means l r (Nothing reason.BothBare) = (x : NameNo) × (y : NameNo) × (bare l ≡ Some x) × (bare r ≡ Some y)
+Means l r (Nothing reason.NeitherBare) = (bare l ≡ None) × (bare r ≡ None)
 Means l r (Nothing reason.Wildcard) = Opposed reason.Wildcard l r
 Means l r (Nothing reason.Arithmetic) = Opposed reason.Arithmetic l r
 
@@ -188,11 +187,11 @@ means l r = go (bare l) (bare r) refl refl
     opposed reason.Wildcard o p = p
     opposed reason.Arithmetic o p = p
 
-    go : (p q : Subject) → bare l ≡ p → bare r ≡ q → Means l r (by_bare p q l r)
-    go (Name x) (Name y) e d = (x, y, e, d)
-    go (Name x) NoName e d = unless_cases (Means l r) r (λ shut. record { is_bare = e; exactly_one = d; unless_open = shut }) (λ why o. opposed why o (on_right e o))
-    go NoName (Name y) e d = unless_cases (Means l r) l (λ shut. record { is_bare = d; exactly_one = e; unless_open = shut }) (λ why o. opposed why o (on_left d o))
-    go NoName NoName e d = (e, d)
+    go : (p q : Option NameNo) → bare l ≡ p → bare r ≡ q → Means l r (by_bare p q l r)
+    go (Some x) (Some y) e d = (x, y, e, d)
+    go (Some x) None e d = unless_cases (Means l r) r (λ shut. record { is_bare = e; exactly_one = d; unless_open = shut }) (λ why o. opposed why o (on_right e o))
+    go None (Some y) e d = unless_cases (Means l r) l (λ shut. record { is_bare = d; exactly_one = e; unless_open = shut }) (λ why o. opposed why o (on_left d o))
+    go None None e d = (e, d)
 
 -- and document 01's binding equality is one of them
 binds_unless : (t : Term) (gives : Equality) → ((why : Reason) → Open why t → ⊥) → unless t gives ≡ gives

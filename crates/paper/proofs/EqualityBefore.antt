@@ -3,10 +3,9 @@
 use Prim.Native.Nat.{ℕ}
 use mathlib.Core.Path.{◌≡◌, refl, sym, ap, ◌∙◌}
 use mathlib.Core.Bool.{Bool, true, false, not, ◌||◌}
+use Rattle.std.specs.Prelude.{Option, Some, None}
 use Rattle.paper.specs.declared.NodeNo.{NodeNo}
 use Rattle.paper.specs.declared.NameNo.{NameNo}
-use Rattle.paper.specs.declared.Subject.{Subject}
-use Rattle.paper.specs.declared.Subject.TheVariants.{Name, NoName}
 use Rattle.paper.specs.declared.Reason.TheVariants.{Arithmetic}
 use Rattle.paper.specs.declared.Equality.{Equality}
 use Rattle.paper.specs.declared.Equality.TheVariants.{Left, Right, Nothing}
@@ -37,11 +36,11 @@ ties (Sum n s l b) = true
 ties (Count n l b) = true
 ties (AggregateCall n y) = true
 
-abbrev pub by_sides : Subject → Subject → Bool → Bool → Before
-by_sides (Name x) (Name y) s t = neither
-by_sides (Name x) NoName s t = pick t (left x) neither
-by_sides NoName (Name y) s t = pick s (right y) neither
-by_sides NoName NoName s t = neither
+abbrev pub by_sides : Option NameNo → Option NameNo → Bool → Bool → Before
+by_sides (Some x) (Some y) s t = neither
+by_sides (Some x) None s t = pick t (left x) neither
+by_sides None (Some y) s t = pick s (right y) neither
+by_sides None None s t = neither
 
 abbrev pub before : ℕ → Term → Term → Before
 before op l r = pick (is_equality op) (by_sides (bare l) (bare r) (ties l) (ties r)) neither
@@ -63,7 +62,7 @@ plain (Left x) = left x
 plain (Right x) = right x
 plain (Nothing why) = neither
 
-same_opposite : (t : Term) (gives : Equality) → bare t ≡ NoName → plain (unless t gives) ≡ pick (ties t) (plain gives) neither
+same_opposite : (t : Term) (gives : Equality) → bare t ≡ None → plain (unless t gives) ≡ pick (ties t) (plain gives) neither
 unfolding unless bare
 same_opposite (Var n x) gives e = absurd (no_name (sym e))
 same_opposite (Wildcard n) gives e = refl
@@ -83,11 +82,11 @@ same_answer : (l r : Term) → plain (equality l r) ≡ by_sides (bare l) (bare 
 unfolding equality by_bare
 same_answer l r = go (bare l) (bare r) refl refl
   where
-    go : (p q : Subject) → bare l ≡ p → bare r ≡ q → plain (by_bare p q l r) ≡ by_sides p q (ties l) (ties r)
-    go (Name x) (Name y) e d = refl
-    go (Name x) NoName e d = same_opposite r (Left x) d
-    go NoName (Name y) e d = same_opposite l (Right y) e
-    go NoName NoName e d = refl
+    go : (p q : Option NameNo) → bare l ≡ p → bare r ≡ q → plain (by_bare p q l r) ≡ by_sides p q (ties l) (ties r)
+    go (Some x) (Some y) e d = refl
+    go (Some x) None e d = same_opposite r (Left x) d
+    go None (Some y) e d = same_opposite l (Right y) e
+    go None None e d = refl
 
 -- ---- the theorems
 

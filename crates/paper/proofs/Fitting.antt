@@ -8,8 +8,8 @@ use Prim.Native.Nat.{ℕ, ◌+◌, ◌*◌, ◌/◌, ◌%◌, ◌<◌}
 use native.Mathlib.Omega.{arith}
 use native.Mathlib.Nat.{div-eq_of_lt-le, mul-add-mod_self_right, mod-eq_of_lt}
 use borrow.Author.Tests.{ne_eqb}
-use Rattle.paper.specs.declared.Subject.{Subject}
-use Rattle.paper.specs.declared.Subject.TheVariants.{Name, NoName}
+use Rattle.std.specs.Prelude.{Option, Some, None}
+use Rattle.paper.specs.declared.NameNo.{NameNo}
 use Rattle.paper.specs.declared.Finding.{Finding}
 use Rattle.paper.specs.Sets.{Set, none}
 use Rattle.paper.specs.TurnedAway.{Contents}
@@ -26,22 +26,22 @@ use Rattle.paper.proofs.SanePlaces.{SanePlace, SaneCell, SaneBroken, scope_broke
 
 -- ---- an entry and its number
 
-abbrev NameFits : Subject → Type 0
-NameFits (Name x) = x.0 < 255
-NameFits NoName = Unit {0}
+abbrev NameFits : Option NameNo → Type 0
+NameFits (Some x) = x.0 < 255
+NameFits None = Unit {0}
 
 abbrev pub Fits : Finding → Type 0
 Fits f = (f.rule < 256) × (f.node.0 < 65536) × NameFits f.name
 
-subject_name : (s : Subject) → NameFits s → subject_of (name_or_255 s) ≡ s
+subject_name : (s : Option NameNo) → NameFits s → subject_of (name_or_255 s) ≡ s
 unfolding subject_of name_or_255
-subject_name (Name x) h = rw (ne_eqb x.0 255 (λ e. omega arith))
-subject_name NoName h = refl
+subject_name (Some x) h = rw (ne_eqb x.0 255 (λ e. omega arith))
+subject_name None h = refl
 
-name_small : (s : Subject) → NameFits s → name_or_255 s < 256
+name_small : (s : Option NameNo) → NameFits s → name_or_255 s < 256
 unfolding name_or_255
-name_small (Name x) h = omega arith
-name_small NoName h = omega arith
+name_small (Some x) h = omega arith
+name_small None h = omega arith
 
 -- the three digits of a number
 rule_digit : (r n x : ℕ) → n < 65536 → x < 256 → (r * 16777216 + n * 256 + x) / 16777216 ≡ r

@@ -12,9 +12,9 @@ use native.Mathlib.Omega.{arith}
 use lib.Dec.{eqb, leb}
 use lib.ListN.{length, take, get_or, length-append, length-map}
 use borrow.Author.Tests.{leb-true}
+use Rattle.std.specs.Prelude.{Ok, Err}
 use Rattle.paper.specs.declared.Finding.{Finding}
-use Rattle.paper.specs.declared.Arithmetic.TheVariants.{Yes, No}
-use Rattle.paper.specs.declared.Listing.TheVariants.{Listed, NoRoom}
+use Rattle.paper.specs.declared.Unlisted.TheVariants.{NoRoom}
 use Rattle.paper.specs.Sets.{Set, all_below}
 use Rattle.paper.specs.Record.{
   pick,
@@ -267,7 +267,7 @@ pub arithmetic_place : (bytes : List ℕ) → (arithmetic_numbers (arithmetic by
 unfolding arithmetic arithmetic_of arithmetic_numbers
 arithmetic_place bytes = go (read bytes) refl
   where
-    yes_or_no : (t : Bool) → (arithmetic_numbers (pick t Yes No)).place ≤ 262272
+    yes_or_no : (t : Bool) → (arithmetic_numbers (Ok t)).place ≤ 262272
     yes_or_no true = omega arith
     yes_or_no false = omega arith
 
@@ -284,7 +284,7 @@ unfolding list listing_of listing_numbers
 list_place bytes room = go (read bytes) refl
   where
     counted : (n : ℕ) → n ≤ 262272 → (t : Bool)
-        → (listing_numbers (pick t (Listed n) (NoRoom n))).place ≤ 262272
+        → (listing_numbers (pick t (Ok n) (Err (NoRoom n)))).place ≤ 262272
     counted n h true = h
     counted n h false = h
 

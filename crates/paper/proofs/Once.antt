@@ -14,9 +14,9 @@ use native.Mathlib.Nat.{eq-or-lt_of_le}
 use lib.Dec.{eqb}
 use lib.ListN.{length}
 use borrow.Author.Tests.{eq-eqb, ne_eqb, eqb-true}
+use Rattle.std.specs.Prelude.{Option, Some, None}
+use Rattle.paper.specs.declared.NameNo.{NameNo}
 use Rattle.paper.specs.declared.NodeNo.{NodeNo}
-use Rattle.paper.specs.declared.Subject.{Subject}
-use Rattle.paper.specs.declared.Subject.TheVariants.{Name, NoName}
 use Rattle.paper.specs.declared.Finding.{Finding}
 use Rattle.paper.specs.Sets.{Set, none, members}
 use Rattle.paper.specs.Record.{pick}
@@ -177,7 +177,7 @@ module _ (v : ℕ) where
   often_append : (a b : List Finding) → often (a ++ b) ≡ often a + often b
   often_append a b = ap (times v) (map-append pack a b) ∙ times_append v (map pack a) (map pack b)
 
-  often_one : (rule : ℕ) (n : NodeNo) (s : Subject) → name_or_255 s < 256 → often (record { rule = rule; node = n; name = s } ∷ []) ≤ own rule n.0
+  often_one : (rule : ℕ) (n : NodeNo) (s : Option NameNo) → name_or_255 s < 256 → often (record { rule = rule; node = n; name = s } ∷ []) ≤ own rule n.0
   unfolding pack
   often_one rule n s h =
       times_ascending v ((rule * 16777216 + n.0 * 256 + name_or_255 s) ∷ []) (own rule n.0) (λ x m. absurd (Memᴰ.not-nil m), tt)
@@ -185,7 +185,7 @@ module _ (v : ℕ) where
 
   often_itself : (rule : ℕ) (n : NodeNo) → often (findings (itself rule n)) ≤ own rule n.0
   unfolding findings name_or_255
-  often_itself rule n = often_one rule n NoName (omega arith)
+  often_itself rule n = often_one rule n None (omega arith)
 
   often_names : (rule : ℕ) (n : NodeNo) (s : Set) → often (findings (for_names rule n s)) ≤ own rule n.0
   unfolding findings pack name_or_255
@@ -202,7 +202,7 @@ module _ (v : ℕ) where
   unfolding at_cell
   often_cell rule s c h =
       picked (λ (l : List Finding). often l ≤ own rule c.node.0) (s c.name.0) _ []
-      (often_one rule c.node (Name c.name) (unfold name_or_255 in omega arith)) (omega arith)
+      (often_one rule c.node (Some c.name) (unfold name_or_255 in omega arith)) (omega arith)
 
   by_number : Tally
   by_number =

@@ -4,8 +4,7 @@
 use mathlib.Core.Path.{◌≡◌, refl, sym, ap, ◌∙◌, subst}
 use mathlib.Core.Bool.{Bool, true, false, not, ◌&&◌, ◌||◌, true≢false}
 use Prim.Native.Nat.{ℕ}
-use Rattle.paper.specs.declared.Subject.{Subject}
-use Rattle.paper.specs.declared.Subject.TheVariants.{Name}
+use Rattle.std.specs.Prelude.{Option, Some}
 use Rattle.paper.specs.declared.NameNo.{NameNo}
 use Rattle.paper.specs.declared.Equality.{Equality}
 use Rattle.paper.specs.declared.Equality.TheVariants.{Left, Right, Nothing}
@@ -84,9 +83,9 @@ direct_free (argument n f t l) =
     (right_within _ (term_free t) (arguments_free l) (direct_free l))
 
 -- a tied name is a bare variable of one side
-named_free : (t : Term) {x : NameNo} → bare t ≡ Name x → Within (only x.0) (term_free t)
+named_free : (t : Term) {x : NameNo} → bare t ≡ Some x → Within (only x.0) (term_free t)
 unfolding about
-named_free t e = subst (λ (s : Subject). Within (about s) (term_free t)) e (bare_free t)
+named_free t e = subst (λ (s : Option NameNo). Within (about s) (term_free t)) e (bare_free t)
 
 tied_free : (l r : Term) → Within (tied_name (equality l r)) (term_free l ∪ term_free r)
 unfolding tied_name

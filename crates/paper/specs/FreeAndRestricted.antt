@@ -1,9 +1,8 @@
 -- Document 01, 'Free and restricted names', and what it means that a condition holds a sigil. Assumes nothing: these are definitions.
-use Rattle.std.specs.Prelude.{ℕ, Bool, true, false, ◌||◌, eqb}
+use Rattle.std.specs.Prelude.{ℕ, Bool, true, false, ◌||◌, eqb, Option, Some, None}
+use Rattle.paper.specs.declared.NameNo.{NameNo}
 use Rattle.paper.specs.declared.Slot.{Slot}
 use Rattle.paper.specs.declared.Slot.TheVariants as slot
-use Rattle.paper.specs.declared.Subject.{Subject}
-use Rattle.paper.specs.declared.Subject.TheVariants.{Name, NoName}
 use Rattle.paper.specs.declared.Reason.TheVariants as reason
 use Rattle.paper.specs.declared.Equality.{Equality}
 use Rattle.paper.specs.declared.Equality.TheVariants.{Left, Right, Nothing}
@@ -91,20 +90,20 @@ unfoldable mutual
   items_wildcard (item n t l) = has_wildcard t || items_wildcard l
 
 -- a bare variable: one that is the whole term
-unfoldable pub bare : Term → Subject
-bare (Var n x) = Name x
-bare (Wildcard n) = NoName
-bare (Value n k y) = NoName
-bare (Sigil n k i) = NoName
-bare (Array n l) = NoName
-bare (Arith n o l r) = NoName
-bare (Sum n s l b) = NoName
-bare (Count n l b) = NoName
-bare (AggregateCall n y) = NoName
+unfoldable pub bare : Term → Option NameNo
+bare (Var n x) = Some x
+bare (Wildcard n) = None
+bare (Value n k y) = None
+bare (Sigil n k i) = None
+bare (Array n l) = None
+bare (Arith n o l r) = None
+bare (Sum n s l b) = None
+bare (Count n l b) = None
+bare (AggregateCall n y) = None
 
-unfoldable pub about : Subject → Set
-about (Name x) = only x.0
-about NoName = none
+unfoldable pub about : Option NameNo → Set
+about (Some x) = only x.0
+about None = none
 
 -- "unless the other side is a wildcard or arithmetic containing one": what the equality gives, by the side that is no bare variable. `x == ?p` gives x
 unfoldable pub unless : Term → Equality → Equality
@@ -119,11 +118,11 @@ unless (Count n l b) gives = gives
 unless (AggregateCall n y) gives = gives
 
 -- "an equality with exactly one bare variable gives it": the bare variables of the two sides, and the sides
-unfoldable pub by_bare : Subject → Subject → Term → Term → Equality
-by_bare (Name x) (Name y) l r = Nothing reason.BothBare
-by_bare (Name x) NoName l r = unless r (Left x)
-by_bare NoName (Name y) l r = unless l (Right y)
-by_bare NoName NoName l r = Nothing reason.NeitherBare
+unfoldable pub by_bare : Option NameNo → Option NameNo → Term → Term → Equality
+by_bare (Some x) (Some y) l r = Nothing reason.BothBare
+by_bare (Some x) None l r = unless r (Left x)
+by_bare None (Some y) l r = unless l (Right y)
+by_bare None None l r = Nothing reason.NeitherBare
 
 -- document 02, W-205: "which side is tied, or which of four reasons holds: both bare, neither bare, wildcard, arithmetic with a wildcard"
 unfoldable pub equality : Term → Term → Equality

@@ -1,14 +1,12 @@
 -- Places and document order: what a path from the root is, what is unmet at its end, and which of two entries comes first.
 -- Scoping and demands (the next two files) say what lies below a place and which rules are broken there; the rest is the same for both.
 -- `Unmet` and `Before` speak of paths alone. `found` is the list, and `Exactly` says when a list is the right one. Assumes nothing: these are definitions.
-use Rattle.std.specs.Prelude.{◌≡◌, ◌⊎◌, Bool, true, false, ℕ, zero, suc, ◌<◌, get_or}
+use Rattle.std.specs.Prelude.{◌≡◌, ◌⊎◌, Bool, true, false, ℕ, zero, suc, ◌<◌, get_or, Option, Some, None}
 use Rattle.std.proofs.Math.Option.{some}
 use mathlib.Core.List.{List, [], ◌∷◌, ◌++◌, map, Memᴰ}
 use Rattle.std.proofs.Math.ListN.{get_elem?}
 use Rattle.paper.specs.declared.NodeNo.{NodeNo}
 use Rattle.paper.specs.declared.NameNo.{NameNo}
-use Rattle.paper.specs.declared.Subject.{Subject}
-use Rattle.paper.specs.declared.Subject.TheVariants.{Name, NoName}
 use Rattle.paper.specs.declared.Finding.{Finding}
 use Rattle.paper.specs.Sets.{Set, none, members}
 use Rattle.paper.specs.Record.{pick, most_names, node_no, name_no}
@@ -54,7 +52,7 @@ pub record Entry : Type 0 where
   pub rank : ℕ
   pub finding : Finding
 
-abbrev pub entry : ℕ → ℕ → NodeNo → Subject → Entry
+abbrev pub entry : ℕ → ℕ → NodeNo → Option NameNo → Entry
 entry rule rank n name = record { rank = rank; finding = record { rule = rule; node = n; name = name } }
 
 -- a binder cell: its node and its name
@@ -69,10 +67,10 @@ pub data Broken : Type 0 where
   at_cells : ℕ → Set → List Cell → Broken
 
 abbrev pub Breaks : Broken → Entry → Type 0
-Breaks (itself rule n) e = e ≡ entry rule 0 n NoName
-Breaks (for_names rule n s) e = (x : ℕ) × (x < most_names) × (s x ≡ true) × (e ≡ entry rule x n (Name (name_no x)))
+Breaks (itself rule n) e = e ≡ entry rule 0 n None
+Breaks (for_names rule n s) e = (x : ℕ) × (x < most_names) × (s x ≡ true) × (e ≡ entry rule x n (Some (name_no x)))
 Breaks (at_cells rule s cells) e =
-    (i : ℕ) × (c : Cell) × (get_elem? cells i ≡ some c) × (s c.name.0 ≡ true) × (e ≡ entry rule i c.node (Name c.name))
+    (i : ℕ) × (c : Cell) × (get_elem? cells i ≡ some c) × (s c.name.0 ≡ true) × (e ≡ entry rule i c.node (Some c.name))
 
 -- the entry is unmet at the place that the path leads to, where `broken` gives the rules that are broken at a place
 abbrev pub Unmet : (Place → List Place) → (Place → List Broken) → Place → List ℕ → Entry → Type 0
@@ -118,15 +116,15 @@ unfoldable pub gather : {A B : Type 0} → (A → List B) → List A → List B
 gather f [] = []
 gather f (a ∷ l) = f a ++ gather f l
 
-abbrev finding : ℕ → NodeNo → Subject → Finding
+abbrev finding : ℕ → NodeNo → Option NameNo → Finding
 finding rule n name = record { rule = rule; node = n; name = name }
 
 unfoldable pub at_cell : ℕ → Set → Cell → List Finding
-at_cell rule s c = pick (s c.name.0) (finding rule c.node (Name c.name) ∷ []) []
+at_cell rule s c = pick (s c.name.0) (finding rule c.node (Some c.name) ∷ []) []
 
 unfoldable pub findings : Broken → List Finding
-findings (itself rule n) = finding rule n NoName ∷ []
-findings (for_names rule n s) = map (λ (x : ℕ). finding rule n (Name (name_no x))) (members s most_names)
+findings (itself rule n) = finding rule n None ∷ []
+findings (for_names rule n s) = map (λ (x : ℕ). finding rule n (Some (name_no x))) (members s most_names)
 findings (at_cells rule s cells) = gather (at_cell rule s) cells
 
 unfoldable pub spot_size : Spot → ℕ

@@ -1,16 +1,13 @@
 -- The public questions: for each, its answer as a function of the bytes, and of the seed or the lent buffer; and document 01's numbers for the
 -- cases of each answer. "A refusal by the reader is passed up unchanged by every question but the name lookup." Assumes nothing: these are definitions.
-use Rattle.std.specs.Prelude.{ℕ, ◌+◌, ◌*◌, List, [], ◌∷◌, ◌++◌, leb, ltb, length, drop}
+use Rattle.std.specs.Prelude.{ℕ, ◌+◌, ◌*◌, Bool, true, false, List, [], ◌∷◌, ◌++◌, leb, ltb, length, drop, Option, Some, None, Result, Ok, Err}
 use Rattle.paper.specs.declared.Finding.{Finding}
-use Rattle.paper.specs.declared.Answer.{Answer}
-use Rattle.paper.specs.declared.Answer.TheVariants as answer
-use Rattle.paper.specs.declared.Arithmetic.{Arithmetic}
-use Rattle.paper.specs.declared.Arithmetic.TheVariants as arith
-use Rattle.paper.specs.declared.Listing.{Listing}
-use Rattle.paper.specs.declared.Listing.TheVariants as listing
+use Rattle.paper.specs.declared.Refusal.{Refusal}
+use Rattle.paper.specs.declared.Unlisted.{Unlisted}
+use Rattle.paper.specs.declared.Unlisted.TheVariants.{NoRoom, Refused}
 use Rattle.paper.specs.Record.{pick}
 use Rattle.paper.specs.Sets.{Set}
-use Rattle.paper.specs.TurnedAway.{Contents, Outcome, refused, accepted, read}
+use Rattle.paper.specs.TurnedAway.{Contents, Outcome, refused, accepted, refusal, read}
 use Rattle.paper.specs.Tree.{root}
 use Rattle.paper.specs.Scoping.{scoping_part}
 use Rattle.paper.specs.Demands.{closedness_part, demands_part, has_arith}
@@ -18,12 +15,16 @@ use Rattle.paper.specs.TheList.{packed, name_or_255, name_text}
 
 -- ---- "Scoping (bytes and seed), closedness and demands answer 'accepted' or their first entry"
 
+-- the first entry, if there is one; or the reader's refusal
+abbrev pub Answer : Type 0
+Answer = Result (Option Finding) Refusal
+
 unfoldable pub first : List Finding → Answer
-first [] = answer.Accepted
-first (f ∷ fs) = answer.Unmet f
+first [] = Ok None
+first (f ∷ fs) = Ok (Some f)
 
 unfoldable pub answered : (Contents → List Finding) → Outcome → Answer
-answered part (refused number offset) = answer.Refused number offset
+answered part (refused number offset) = Err (refusal number offset)
 answered part (accepted c) = first (part c)
 
 unfoldable pub scoping : List ℕ → Set → Answer
@@ -37,9 +38,13 @@ demands bytes = answered demands_part (read bytes)
 
 -- ---- "the arithmetic test answers yes or no"
 
+-- yes or no; or the reader's refusal
+abbrev pub Arithmetic : Type 0
+Arithmetic = Result Bool Refusal
+
 unfoldable pub arithmetic_of : Outcome → Arithmetic
-arithmetic_of (refused number offset) = arith.Refused number offset
-arithmetic_of (accepted c) = pick (has_arith (root c)) arith.Yes arith.No
+arithmetic_of (refused number offset) = Err (refusal number offset)
+arithmetic_of (accepted c) = Ok (has_arith (root c))
 
 unfoldable pub arithmetic : List ℕ → Arithmetic
 arithmetic bytes = arithmetic_of (read bytes)
@@ -47,10 +52,14 @@ arithmetic bytes = arithmetic_of (read bytes)
 -- ---- the list: "Success returns the count and changes only that many entries, the first ones"; "50, after them, returns the entries needed.
 -- None writes anything."
 
+-- how many entries were written; or why none were
+abbrev pub Listing : Type 0
+Listing = Result ℕ Unlisted
+
 -- the answer, where the buffer has room for so many entries
 unfoldable pub listing_of : Outcome → ℕ → Listing
-listing_of (refused number offset) room = listing.Refused number offset
-listing_of (accepted c) room = pick (leb (length (packed c)) room) (listing.Listed (length (packed c))) (listing.NoRoom (length (packed c)))
+listing_of (refused number offset) room = Err (Refused (refusal number offset))
+listing_of (accepted c) room = pick (leb (length (packed c)) room) (Ok (length (packed c))) (Err (NoRoom (length (packed c))))
 
 unfoldable pub list : List ℕ → ℕ → Listing
 list bytes room = listing_of (read bytes) room
@@ -99,17 +108,17 @@ abbrev numbers : ℕ → ℕ → ℕ → Numbers
 numbers n p x = record { number = n; place = p; name = x }
 
 unfoldable pub answer_numbers : Answer → Numbers
-answer_numbers answer.Accepted = numbers 0 0 255
-answer_numbers (answer.Unmet f) = numbers f.rule f.node.0 (name_or_255 f.name)
-answer_numbers (answer.Refused number offset) = numbers number offset 255
+answer_numbers (Ok None) = numbers 0 0 255
+answer_numbers (Ok (Some f)) = numbers f.rule f.node.0 (name_or_255 f.name)
+answer_numbers (Err r) = numbers r.number r.offset 255
 
 -- "yes (refusal 40 ..., no node, no name)"
 unfoldable pub arithmetic_numbers : Arithmetic → Numbers
-arithmetic_numbers arith.Yes = numbers 40 0 255
-arithmetic_numbers arith.No = numbers 0 0 255
-arithmetic_numbers (arith.Refused number offset) = numbers number offset 255
+arithmetic_numbers (Ok true) = numbers 40 0 255
+arithmetic_numbers (Ok false) = numbers 0 0 255
+arithmetic_numbers (Err r) = numbers r.number r.offset 255
 
 unfoldable pub listing_numbers : Listing → Numbers
-listing_numbers (listing.Listed count) = numbers 0 count 255
-listing_numbers (listing.NoRoom needed) = numbers 50 needed 255
-listing_numbers (listing.Refused number offset) = numbers number offset 255
+listing_numbers (Ok count) = numbers 0 count 255
+listing_numbers (Err (NoRoom needed)) = numbers 50 needed 255
+listing_numbers (Err (Refused r)) = numbers r.number r.offset 255

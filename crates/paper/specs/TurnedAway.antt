@@ -1,10 +1,10 @@
 -- Document 01, 'When bytes are turned away': the records are read front to back, and the first fault wins.
 -- What the reader makes of accepted bytes, a table of names and a row of nodes, is `Contents`. Assumes nothing: these are definitions.
-use Rattle.std.specs.Prelude.{ℕ, zero, suc, ◌+◌, ◌-◌, max, Bool, true, false, not, ◌&&◌, ◌||◌, List, [], ◌∷◌, ◌++◌, map, eqb, leb, ltb, length, take, drop, get_or}
+use Rattle.std.specs.Prelude.{ℕ, zero, suc, ◌+◌, ◌-◌, max, Bool, true, false, not, ◌&&◌, ◌||◌, List, [], ◌∷◌, ◌++◌, map, eqb, leb, ltb, length, take, drop, get_or, Result, Ok, Err}
 use Rattle.paper.specs.declared.Node.{Node}
 use Rattle.paper.specs.declared.Node.TheVariants.{ListEnd}
-use Rattle.paper.specs.declared.Verdict.{Verdict}
-use Rattle.paper.specs.declared.Verdict.TheVariants.{Counts, Refused}
+use Rattle.paper.specs.declared.Counts.{Counts}
+use Rattle.paper.specs.declared.Refusal.{Refusal}
 use Rattle.paper.specs.Sets.{Set, none, only, ◌∪◌, all_below}
 use Rattle.paper.specs.Record.{
   pick,
@@ -54,10 +54,16 @@ pub data Outcome : Type 0 where
   refused : ℕ → ℕ → Outcome
   accepted : Contents → Outcome
 
+abbrev pub counts : ℕ → ℕ → Counts
+counts names nodes = record { names = names; nodes = nodes }
+
+abbrev pub refusal : ℕ → ℕ → Refusal
+refusal number offset = record { number = number; offset = offset }
+
 -- the same as the reader's verdict: the counts, or the refusal
-unfoldable pub verdict : Outcome → Verdict
-verdict (refused number offset) = Refused number offset
-verdict (accepted c) = Counts (length c.names) (length c.nodes)
+unfoldable pub verdict : Outcome → Result Counts Refusal
+verdict (refused number offset) = Err (refusal number offset)
+verdict (accepted c) = Ok (counts (length c.names) (length c.nodes))
 
 -- ---- what was read so far
 

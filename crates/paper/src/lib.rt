@@ -1,15 +1,19 @@
 // The plain types that the code and the definitions share. The definitions themselves are in specs/.
 
 #![tactic(auto)]
+
+ghost use Rattle.std.specs.Prelude.{◌≡◌};
+ghost use Rattle.paper.specs.declared.Unlisted.TheVariants.{Refused};
+
 // A node's number and a name's: neither can stand for the other.
-#[derive(Clone, Copy)]
+#[derive(Clone, Copy, PartialEq, Eq, PartialOrd, Ord, Debug)]
 pub struct NodeNo(pub u16);
 
-#[derive(Clone, Copy)]
+#[derive(Clone, Copy, PartialEq, Eq, PartialOrd, Ord, Debug)]
 pub struct NameNo(pub u8);
 
 // A slot: a name of the table, or a sigil by its number.
-#[derive(Clone, Copy)]
+#[derive(Clone, Copy, PartialEq, Eq, Debug)]
 pub enum Slot {
     Name(NameNo),
     Param(u8),
@@ -17,7 +21,7 @@ pub enum Slot {
 }
 
 // A node, with every field that its record has.
-#[derive(Clone, Copy)]
+#[derive(Clone, Copy, PartialEq, Eq, Debug)]
 pub enum Node {
     And(NodeNo, NodeNo),
     Or(NodeNo, NodeNo),
@@ -50,22 +54,22 @@ pub enum Node {
     BinderCell(Slot, u8, NodeNo),
 }
 
-// What the reader says of the bytes: how many names and nodes they hold, or the refusal.
-#[derive(Clone, Copy)]
-pub enum Verdict {
-    Counts { names: usize, nodes: usize },
-    Refused { number: u8, offset: usize },
+// What accepted bytes hold: so many names and so many nodes.
+#[derive(Clone, Copy, PartialEq, Eq, Debug)]
+pub struct Counts {
+    pub names: usize,
+    pub nodes: usize,
 }
 
-// Whom an entry is about: a name, or none.
-#[derive(Clone, Copy)]
-pub enum Subject {
-    Name(NameNo),
-    NoName,
+// Bytes that the reader turns away: the number of their first fault, and where the record with it begins.
+#[derive(Clone, Copy, PartialEq, Eq, Debug)]
+pub struct Refusal {
+    pub number: u8,
+    pub offset: usize,
 }
 
 // Why an equality ties nothing: both its sides are bare variables, or neither is; or one is, and the other is a wildcard, or arithmetic that contains one.
-#[derive(Clone, Copy)]
+#[derive(Clone, Copy, PartialEq, Eq, Debug)]
 pub enum Reason {
     BothBare,
     NeitherBare,
@@ -74,41 +78,32 @@ pub enum Reason {
 }
 
 // What an equality ties: the variable on its left or on its right, or nothing, for a reason.
-#[derive(Clone, Copy)]
+#[derive(Clone, Copy, PartialEq, Eq, Debug)]
 pub enum Equality {
     Left(NameNo),
     Right(NameNo),
     Nothing(Reason),
 }
 
-// One unmet rule: its number, the node that it stands at, and the name that it is about.
-#[derive(Clone, Copy)]
+// One unmet rule: its number, the node that it stands at, and the name that it is about, if it is about one.
+#[derive(Clone, Copy, PartialEq, Eq, Debug)]
 pub struct Finding {
     pub rule: u8,
     pub node: NodeNo,
-    pub name: Subject,
+    pub name: Option<NameNo>,
 }
 
-// The answer of scoping, closedness and demands.
-#[derive(Clone, Copy)]
-pub enum Answer {
-    Accepted,
-    Unmet(Finding),
-    Refused { number: u8, offset: usize },
+// Why no list was written: more entries are needed than there is room for, or the reader turned the bytes away.
+#[derive(Clone, Copy, PartialEq, Eq, Debug)]
+pub enum Unlisted {
+    NoRoom { needed: usize },
+    Refused(Refusal),
 }
 
-// The answer of the arithmetic test.
-#[derive(Clone, Copy)]
-pub enum Arithmetic {
-    Yes,
-    No,
-    Refused { number: u8, offset: usize },
-}
+impl From<Refusal> for Unlisted {
+    ghost from_gives = { λ refusal unlisted. unlisted ≡ Refused refusal };
 
-// The answer of the list: how many entries were written, or how many there is no room for.
-#[derive(Clone, Copy)]
-pub enum Listing {
-    Listed(usize),
-    NoRoom(usize),
-    Refused { number: u8, offset: usize },
+    fn from(refusal: Refusal) -> Unlisted {
+        Unlisted::Refused(refusal)
+    }
 }

@@ -5,7 +5,7 @@ ghost use Rattle.trees.specs.Trees.{tree_of};
 ghost use Rattle.writes.specs.Written.{Room, Wrote};
 ghost use Rattle.places.specs.Nested.{nested_in};
 
-use paper::{Finding, Node, NodeNo, Subject};
+use paper::{Finding, Node, NodeNo};
 use record::access::node_at;
 use writes::put;
 
@@ -17,7 +17,7 @@ fn reject(n: NodeNo, rule: u8, out: &mut [u32], at: usize) -> usize
     let f = Finding {
         rule: rule,
         node: n,
-        name: Subject::NoName,
+        name: None,
     };
     put(out, at, f)
 }

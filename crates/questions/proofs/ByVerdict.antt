@@ -1,13 +1,12 @@
 -- What follows from the reader's verdict: each question's answer is the refusal, or the bytes are ready for what is answered to accepted ones. Assumes nothing.
-use mathlib.Core.Path.{◌≡◌, sym, ap, ◌∙◌}
+use mathlib.Core.Path.{◌≡◌, refl, sym, ap}
 use mathlib.Core.List.{List}
 use Prim.Native.Nat.{ℕ}
 use lib.ListN.{length}
+use Rattle.std.specs.Prelude.{Ok, Err}
 use Rattle.paper.specs.declared.Finding.{Finding}
-use Rattle.paper.specs.declared.Verdict.TheVariants.{Counts, Refused}
-use Rattle.paper.specs.declared.Answer.TheVariants as answer
-use Rattle.paper.specs.declared.Arithmetic.TheVariants as arith
-use Rattle.paper.specs.declared.Listing.TheVariants as listing
+use Rattle.paper.specs.declared.Refusal.{Refusal}
+use Rattle.paper.specs.declared.Unlisted.TheVariants.{Refused}
 use Rattle.paper.specs.TurnedAway as outcome
 use Rattle.paper.specs.TurnedAway.{Contents, Outcome, read}
 use Rattle.paper.specs.Questions.{answered, arithmetic_of, arithmetic, listing_of, list, buffer_of, list_buffer}
@@ -18,28 +17,28 @@ use Rattle.record.proofs.StoredLaws.{read_stored}
 use Rattle.record.proofs.Verdicts.{refused_is, counts_are}
 use Rattle.accepted.specs.Ready.{Ready, Counted, Reserved}
 
-module _ (bytes : List ℕ) (r : Reading) (p : Read bytes r) {n o : ℕ} (e : r.verdict ≡ Refused n o) where
-  refused : read bytes ≡ outcome.refused n o
-  refused = refused_is bytes (sym p.said ∙ e)
+module _ (bytes : List ℕ) (e : Refusal) (p : Read bytes (Err e)) where
+  refused : read bytes ≡ outcome.refused e.number e.offset
+  refused = refused_is bytes (sym p.said)
 
-  pub answered_refused : (part : Contents → List Finding) → answered part (read bytes) ≡ answer.Refused n o
+  pub answered_refused : (part : Contents → List Finding) → answered part (read bytes) ≡ Err e
   unfolding answered
   answered_refused part = ap (answered part) refused
 
-  pub list_refused : (before : List ℕ) → (list bytes (length before) ≡ listing.Refused n o) × (list_buffer bytes before ≡ before)
+  pub list_refused : (before : List ℕ) → (list bytes (length before) ≡ Err (Refused e)) × (list_buffer bytes before ≡ before)
   unfolding list listing_of list_buffer buffer_of
   list_refused before = (ap (λ (r : Outcome). listing_of r (length before)) refused, ap (λ (r : Outcome). buffer_of r before) refused)
 
-  pub arithmetic_refused : arithmetic bytes ≡ arith.Refused n o
+  pub arithmetic_refused : arithmetic bytes ≡ Err e
   unfolding arithmetic arithmetic_of
   arithmetic_refused = ap arithmetic_of refused
 
-module _ (bytes : List ℕ) (r : Reading) (p : Read bytes r) {n k : ℕ} (e : r.verdict ≡ Counts n k) where
-  pub counted : Counted bytes n k
-  counted = sym p.said ∙ e
+module _ (bytes : List ℕ) (r : Reading) (p : Read bytes (Ok r)) where
+  pub counted : Counted bytes r.counts.names r.counts.nodes
+  counted = sym p.said
 
-  pub ready : Ready bytes r.arena.starts k
-  ready = record { names = n; counted = counted; stored = read_stored bytes r p }
+  pub ready : Ready bytes r.starts r.counts.nodes
+  ready = record { names = r.counts.names; counted = counted; stored = read_stored bytes r p }
 
-  pub reserves : Reserved bytes r.arena.reserved
-  reserves = (p.held (contents bytes) (counts_are bytes ready.counted).outcome).words
+  pub reserves : Reserved bytes r.reserved
+  reserves = (p.held r refl (contents bytes) (counts_are bytes ready.counted).outcome).words

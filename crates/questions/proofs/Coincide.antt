@@ -6,10 +6,11 @@ use Prim.Native.Nat.{ℕ}
 use contract.Lifetimes.{Lfts}
 use denote.Triple.Clauses.{AtExit}
 use borrow.Fn.Kinds.{ParamKind, ResultKind, In, Out, Dens, res_t, ended_of}
-use Rattle.paper.specs.declared.Verdict.{Verdict}
-use Rattle.paper.specs.declared.Answer.{Answer}
-use Rattle.paper.specs.declared.Arithmetic.{Arithmetic}
-use Rattle.paper.specs.declared.Listing.{Listing}
+use Rattle.std.specs.Prelude.{Result}
+use Rattle.paper.specs.declared.Counts.{Counts}
+use Rattle.paper.specs.declared.Refusal.{Refusal}
+use Rattle.paper.specs.Questions.{Answer, Arithmetic, Listing}
+use Rattle.record.specs.Arena.{said_by}
 use Rattle.record.proofs.reader.read.Reads as reader
 use Rattle.record.proofs.reader.read.Kinds as of_reader
 use Rattle.record.proofs.access.name.Reads as name
@@ -49,7 +50,7 @@ list_coincides κs a x y e f p q = p.0 ∙ sym q.0
 pub buffer_coincides : Decides 2 of_list.ps of_list.r list.Post (List ℕ) (λ κs x e. e.1.0.now)
 buffer_coincides κs a x y e f p q = p.1 ∙ sym q.1
 
-pub verdict_coincides : Decides 1 of_reader.ps of_reader.r reader.Post Verdict (λ κs x e. x.verdict)
+pub verdict_coincides : Decides 1 of_reader.ps of_reader.r reader.Post (Result Counts Refusal) (λ κs x e. said_by x)
 verdict_coincides κs a x y e f p q = p.said ∙ sym q.said
 
 -- the bytes of the name

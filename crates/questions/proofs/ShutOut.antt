@@ -15,21 +15,20 @@ use store.Seg.{take-pre}
 use contract.Lifetimes.{Lfts}
 use denote.Triple.Clauses.{AtExit}
 use borrow.Fn.Kinds.{ParamKind, ResultKind, Dens, res_t, ended_of}
+use Rattle.std.specs.Prelude.{true, false, Some, None, Ok, Err}
 use Rattle.paper.specs.declared.Finding.{Finding}
-use Rattle.paper.specs.declared.Answer.TheVariants.{Accepted, Unmet}
-use Rattle.paper.specs.declared.Verdict.TheVariants.{Counts}
-use Rattle.paper.specs.declared.Arithmetic.{Arithmetic}
-use Rattle.paper.specs.declared.Arithmetic.TheVariants.{Yes, No}
-use Rattle.paper.specs.declared.Listing.TheVariants.{Listed}
+use Rattle.paper.specs.declared.Counts.{Counts}
 use Rattle.paper.specs.Sets.{none}
 use Rattle.paper.specs.Record.{ascii}
 use Rattle.paper.specs.TurnedAway.{Contents, accepted, verdict, read}
 use Rattle.paper.specs.TheList.{packed}
 use Rattle.paper.specs.Questions as question
+use Rattle.paper.specs.Questions.{Answer, Arithmetic, Listing}
 use Rattle.paper.proofs.Cases.{case_b, case_c, case_f, case_full, scoping_b, scoping_f, closedness_b, closedness_full, demands_b, demands_full, verdict_b, name_b}
 use Rattle.paper.proofs.Cases.{told, finds, at, as_told, told_b, told_c, told_f, told_full, lent}
 use Rattle.paper.proofs.Answers.{list_success, list_writes}
 use Rattle.names.specs.Words.{mem}
+use Rattle.record.specs.Arena.{said_by}
 use Rattle.record.proofs.reader.read.Reads as reader
 use Rattle.record.proofs.reader.read.Kinds as of_reader
 use Rattle.record.proofs.access.name.Reads as name
@@ -49,7 +48,7 @@ use Rattle.questions.proofs.list.Kinds as of_list
 abbrev pub Version : (n : ℕ) (ps : List (ParamKind n)) (r : ResultKind n) → Lfts n → Type 0
 Version n ps r κs = Dens κs ps → (res_t r κs).Denot × AtExit (ended_of n ps r) κs
 
-accepted_unmet : (f : Finding) → Accepted ≡ Unmet f → ⊥
+accepted_unmet : (f : Finding) → ◌≡◌ {A = Answer} (Ok None) (Ok (Some f)) → ⊥
 accepted_unmet f e = let z : ◌≡◌ {A = ℕ} 0 1 = cc in omega arith
 
 -- ---- the checks, which accept b, and the arithmetic test, which says no to it
@@ -58,7 +57,7 @@ module _ (κs : Lfts 1) (f : Version 1 of_scoping.ps of_scoping.r κs) where
   abbrev scoping_meets : Dens κs of_scoping.ps → Type 0
   scoping_meets a = scoping.Post κs a (f a).0 (f a).1
 
-  pub scoping_refuses_everything : (b : Dens κs of_scoping.ps) → b.0.now ≡ case_b → mem b.1.0 ≡ none → ((f b).0 ≡ Accepted → ⊥) → scoping_meets b → ⊥
+  pub scoping_refuses_everything : (b : Dens κs of_scoping.ps) → b.0.now ≡ case_b → mem b.1.0 ≡ none → ((f b).0 ≡ Ok None → ⊥) → scoping_meets b → ⊥
   scoping_refuses_everything b at_b unseeded wrong meets = wrong (meets ∙ ap₂ question.scoping at_b unseeded ∙ scoping_b)
 
   pub scoping_fixed : (b g : Dens κs of_scoping.ps) → b.0.now ≡ case_b → g.0.now ≡ case_f → mem b.1.0 ≡ none → mem g.1.0 ≡ none
@@ -71,7 +70,7 @@ module _ (κs : Lfts 1) (f : Version 1 of_closedness.ps of_closedness.r κs) whe
   abbrev closedness_meets : Dens κs of_closedness.ps → Type 0
   closedness_meets a = closedness.Post κs a (f a).0 (f a).1
 
-  pub closedness_refuses_everything : (b : Dens κs of_closedness.ps) → b.0.now ≡ case_b → ((f b).0 ≡ Accepted → ⊥) → closedness_meets b → ⊥
+  pub closedness_refuses_everything : (b : Dens κs of_closedness.ps) → b.0.now ≡ case_b → ((f b).0 ≡ Ok None → ⊥) → closedness_meets b → ⊥
   closedness_refuses_everything b at_b wrong meets = wrong (meets ∙ ap question.closedness at_b ∙ closedness_b)
 
   pub closedness_fixed : (b g : Dens κs of_closedness.ps) → b.0.now ≡ case_b → g.0.now ≡ case_full
@@ -83,7 +82,7 @@ module _ (κs : Lfts 1) (f : Version 1 of_demands.ps of_demands.r κs) where
   abbrev demands_meets : Dens κs of_demands.ps → Type 0
   demands_meets a = demands.Post κs a (f a).0 (f a).1
 
-  pub demands_refuses_everything : (b : Dens κs of_demands.ps) → b.0.now ≡ case_b → ((f b).0 ≡ Accepted → ⊥) → demands_meets b → ⊥
+  pub demands_refuses_everything : (b : Dens κs of_demands.ps) → b.0.now ≡ case_b → ((f b).0 ≡ Ok None → ⊥) → demands_meets b → ⊥
   demands_refuses_everything b at_b wrong meets = wrong (meets ∙ ap question.demands at_b ∙ demands_b)
 
   pub demands_fixed : (b g : Dens κs of_demands.ps) → b.0.now ≡ case_b → g.0.now ≡ case_full → (f b).0 ≡ (f g).0 → demands_meets b → demands_meets g → ⊥
@@ -94,10 +93,10 @@ module _ (κs : Lfts 1) (f : Version 1 of_arithmetic.ps of_arithmetic.r κs) whe
   abbrev arithmetic_meets : Dens κs of_arithmetic.ps → Type 0
   arithmetic_meets a = arithmetic.Post κs a (f a).0 (f a).1
 
-  no_to_b : (b : Dens κs of_arithmetic.ps) → b.0.now ≡ case_b → arithmetic_meets b → (f b).0 ≡ No
+  no_to_b : (b : Dens κs of_arithmetic.ps) → b.0.now ≡ case_b → arithmetic_meets b → (f b).0 ≡ Ok false
   no_to_b b at_b meets = meets ∙ ap question.arithmetic at_b ∙ (as_told case_b _ told_b).2
 
-  pub arithmetic_refuses_everything : (b : Dens κs of_arithmetic.ps) → b.0.now ≡ case_b → ((f b).0 ≡ No → ⊥) → arithmetic_meets b → ⊥
+  pub arithmetic_refuses_everything : (b : Dens κs of_arithmetic.ps) → b.0.now ≡ case_b → ((f b).0 ≡ Ok false → ⊥) → arithmetic_meets b → ⊥
   arithmetic_refuses_everything b at_b wrong meets = wrong (no_to_b b at_b meets)
 
   pub arithmetic_fixed : (b g : Dens κs of_arithmetic.ps) → b.0.now ≡ case_b → g.0.now ≡ case_c
@@ -105,14 +104,14 @@ module _ (κs : Lfts 1) (f : Version 1 of_arithmetic.ps of_arithmetic.r κs) whe
   arithmetic_fixed b g at_b at_c wrong meets_b meets_g =
       differ (sym (no_to_b b at_b meets_b) ∙ wrong ∙ meets_g ∙ ap question.arithmetic at_c ∙ (as_told case_c _ told_c).2)
     where
-      differ : No ≡ Yes → ⊥
+      differ : ◌≡◌ {A = Arithmetic} (Ok false) (Ok true) → ⊥
       differ e = let z : ◌≡◌ {A = ℕ} 0 1 = cc in omega arith
 
 -- ---- the reader and the name lookup, which refuses by the empty stretch
 
 pub reader_refuses_everything : (κs : Lfts 1) (f : Version 1 of_reader.ps of_reader.r κs) (b : Dens κs of_reader.ps) → b.0.now ≡ case_b
-    → ((names nodes : ℕ) → (f b).0.verdict ≡ Counts names nodes → ⊥) → reader.Post κs b (f b).0 (f b).1 → ⊥
-reader_refuses_everything κs f b at_b wrong meets = wrong 1 7 (meets.said ∙ ap (λ (l : List ℕ). verdict (read l)) at_b ∙ verdict_b)
+    → ((counts : Counts) → said_by (f b).0 ≡ Ok counts → ⊥) → reader.Post κs b (f b).0 (f b).1 → ⊥
+reader_refuses_everything κs f b at_b wrong meets = wrong _ (meets.said ∙ ap (λ (l : List ℕ). verdict (read l)) at_b ∙ verdict_b)
 
 pub name_refuses_everything : (κs : Lfts 1) (f : Version 1 of_name.ps of_name.r κs) (b : Dens κs of_name.ps) → b.0.now ≡ case_b → b.1.0.0 ≡ 0
     → (f b).0.now ≡ [] → name.Post κs b (f b).0 (f b).1 → ⊥
@@ -149,29 +148,29 @@ module _ (κs : Lfts 2) (f : Version 2 of_list.ps of_list.r κs) where
   after a = (f a).1.1.0.now
 
   written : (bytes entries rest : List ℕ) (t : Arithmetic) → told bytes ≡ finds entries rest t → (a : Dens κs of_list.ps) → a.0.now ≡ bytes
-      → length entries ≤ length (before a) → list_meets a → ((f a).0 ≡ Listed (length entries)) × (take (length entries) (after a) ≡ entries)
+      → length entries ≤ length (before a) → list_meets a → ((f a).0 ≡ Ok (length entries)) × (take (length entries) (after a) ≡ entries)
   written bytes entries rest t e a asked room meets =
       let l = told_list bytes entries rest t e in
       let w = list_writes bytes (before a) l.0 l.1 (let z = ap length l.2 in omega arith) in (
-        meets.0 ∙ ap (λ (b : List ℕ). question.list b (length (before a))) asked ∙ w.0 ∙ ap (λ (p : List ℕ). Listed (length p)) l.2,
+        meets.0 ∙ ap (λ (b : List ℕ). question.list b (length (before a))) asked ∙ w.0 ∙ ap (λ (p : List ℕ). Ok (length p)) l.2,
         ap (take (length entries)) (meets.1 ∙ ap (λ (b : List ℕ). question.list_buffer b (before a)) asked ∙ w.1 ∙ ap (λ (p : List ℕ). p ++ drop (length p) (before a)) l.2)
             ∙ take-pre entries (drop (length entries) (before a)),
       )
 
-  nothing_at_b : (b : Dens κs of_list.ps) → b.0.now ≡ case_b → list_meets b → (f b).0 ≡ Listed 0
-  nothing_at_b b at_b meets = (written case_b [] _ No told_b b at_b (omega arith) meets).0
+  nothing_at_b : (b : Dens κs of_list.ps) → b.0.now ≡ case_b → list_meets b → (f b).0 ≡ Ok 0
+  nothing_at_b b at_b meets = (written case_b [] _ (Ok false) told_b b at_b (omega arith) meets).0
 
-  two_at_full : (a : Dens κs of_list.ps) → a.0.now ≡ case_full → 2 ≤ length (before a) → list_meets a → ((f a).0 ≡ Listed 2) × (take 2 (after a) ≡ entries_of_full)
-  two_at_full = written case_full entries_of_full _ No told_full
+  two_at_full : (a : Dens κs of_list.ps) → a.0.now ≡ case_full → 2 ≤ length (before a) → list_meets a → ((f a).0 ≡ Ok 2) × (take 2 (after a) ≡ entries_of_full)
+  two_at_full = written case_full entries_of_full _ (Ok false) told_full
 
-  pub list_refuses_everything : (b : Dens κs of_list.ps) → b.0.now ≡ case_b → ((count : ℕ) → (f b).0 ≡ Listed count → ⊥) → list_meets b → ⊥
+  pub list_refuses_everything : (b : Dens κs of_list.ps) → b.0.now ≡ case_b → ((count : ℕ) → (f b).0 ≡ Ok count → ⊥) → list_meets b → ⊥
   list_refuses_everything b at_b wrong meets = wrong 0 (nothing_at_b b at_b meets)
 
   pub list_fixed : (b g : Dens κs of_list.ps) → b.0.now ≡ case_b → g.0.now ≡ case_full → 2 ≤ length (before g)
       → (f b).0 ≡ (f g).0 → list_meets b → list_meets g → ⊥
   list_fixed b g at_b at_full room wrong meets_b meets_g = differ (sym (nothing_at_b b at_b meets_b) ∙ wrong ∙ (two_at_full g at_full room meets_g).0)
     where
-      differ : Listed 0 ≡ Listed 2 → ⊥
+      differ : ◌≡◌ {A = Listing} (Ok 0) (Ok 2) → ⊥
       differ e = let z : ◌≡◌ {A = ℕ} 0 2 = cc in omega arith
 
   -- where the two entries do not stand in the buffer already
@@ -180,9 +179,9 @@ module _ (κs : Lfts 2) (f : Version 2 of_list.ps of_list.r κs) where
   does_nothing a at_full room unlike wrong meets = unlike (ap (take 2) (sym wrong) ∙ (two_at_full a at_full room meets).1)
 
   pub invents_the_rest : (a : Dens κs of_list.ps) → a.0.now ≡ case_f → 4 ≤ length (before a) → (drop 1 (take 4 (after a)) ≡ rest_of_f → ⊥) → list_meets a → ⊥
-  invents_the_rest a at_f room wrong meets = wrong (ap (drop 1) (written case_f (at 24 8 0 ∷ rest_of_f) _ No told_f a at_f room meets).1)
+  invents_the_rest a at_f room wrong meets = wrong (ap (drop 1) (written case_f (at 24 8 0 ∷ rest_of_f) _ (Ok false) told_f a at_f room meets).1)
 
-  pub invents_the_count : (a : Dens κs of_list.ps) (c : Contents) → read a.0.now ≡ accepted c → (count : ℕ) → (f a).0 ≡ Listed count
+  pub invents_the_count : (a : Dens κs of_list.ps) (c : Contents) → read a.0.now ≡ accepted c → (count : ℕ) → (f a).0 ≡ Ok count
       → (count ≡ length (packed c) → ⊥) → list_meets a → ⊥
   invents_the_count a c accepts count says wrong meets =
       let s = list_success a.0.now (before a) count (sym meets.0 ∙ says) in

@@ -9,9 +9,9 @@ use store.Seg.{take-pre, drop-pre}
 use contract.Lifetimes.{Lfts}
 use denote.Triple.Clauses.{AtExit}
 use borrow.Fn.Kinds.{Dens, res_t, ended_of}
+use Rattle.std.specs.Prelude.{Ok}
 use Rattle.paper.specs.declared.Finding.{Finding}
-use Rattle.paper.specs.declared.Listing.{Listing}
-use Rattle.paper.specs.declared.Listing.TheVariants.{Listed}
+use Rattle.paper.specs.Questions.{Listing}
 use Rattle.paper.specs.TurnedAway.{Contents, accepted, read}
 use Rattle.paper.specs.TheList.{the_list, pack, packed}
 use Rattle.paper.proofs.Once.{Distinct}
@@ -21,7 +21,7 @@ use Rattle.questions.proofs.list.Kinds as of_list
 
 -- the answer is the count of some entries, the buffer begins with their numbers, and it is otherwise as before
 pub record Written (entries : List Finding) (before after : List ℕ) (r : Listing) : Type 0 where
-  pub counted : r ≡ Listed (length entries)
+  pub counted : r ≡ Ok (length entries)
   pub begins : take (length entries) after ≡ map pack entries
   pub kept : drop (length entries) after ≡ drop (length entries) before
 
@@ -46,7 +46,7 @@ whole_way κs a r e meets c accepts = record { entries = the_list c; exact = lis
         let w = list_writes a.0.now a.1.0.now c accepts (let z = long in omega arith) in
         let after = meets.1 ∙ w.1 in
         record {
-          counted = meets.0 ∙ w.0 ∙ ap Listed long;
+          counted = meets.0 ∙ w.0 ∙ ap Ok long;
           begins = ap (λ (n : ℕ). take n e.1.0.now) (sym long) ∙ ap (take (length (packed c))) after ∙ take-pre (packed c) _;
           kept =
               ap (λ (n : ℕ). drop n e.1.0.now) (sym long) ∙ ap (drop (length (packed c))) after ∙ drop-pre (packed c) _

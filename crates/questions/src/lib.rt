@@ -1,4 +1,4 @@
-// The public questions. Any bytes may be asked about.
+// The public questions. Any bytes may be asked about, and a refusal of the reader is passed up unchanged.
 #![tactic(auto)]
 
 ghost use Rattle.std.specs.Prelude.{◌≡◌, length};
@@ -8,72 +8,46 @@ ghost use Rattle.names.specs.Words.{mem};
 use accepted::answer_check;
 use listing::Check;
 use names::Names;
-use paper::{Answer, Arithmetic, Listing, Verdict};
+use paper::{Finding, Refusal, Unlisted};
 use record::reader::read;
-use refusals::{passed_answer, passed_arithmetic, passed_listing};
 
-// A refusal of the reader; the first entry of 20 to 27 where the seed's names are in scope; or accepted.
-pub fn scoping(bytes: &[u8], seed: Names) -> Answer
+// The first entry of 20 to 27 where the seed's names are in scope, if there is one.
+pub fn scoping(bytes: &[u8], seed: Names) -> Result<Option<Finding>, Refusal>
     ensures { result ≡ scoping_answer bytes.now (mem seed) }
 {
-    let r = read(bytes);
-    let v = r.verdict;
-    let Verdict::Counts { names: _, nodes } = v else {
-        return passed_answer(v);
-    };
-    let words = r.arena.reserved;
+    let reading = read(bytes)?;
+    let words = reading.reserved;
     let check = Check::Scoping {
         seed: seed,
         words: words,
     };
-    answer_check(bytes, &r.arena.starts, nodes, check)
+    Ok(answer_check(bytes, &reading, check))
 }
 
-// A refusal of the reader; the first entry of 28; or accepted.
-pub fn closedness(bytes: &[u8]) -> Answer
+// The first entry of 28, if there is one.
+pub fn closedness(bytes: &[u8]) -> Result<Option<Finding>, Refusal>
     ensures { result ≡ closedness_answer bytes.now }
 {
-    let r = read(bytes);
-    let v = r.verdict;
-    let Verdict::Counts { names: _, nodes } = v else {
-        return passed_answer(v);
-    };
-    answer_check(bytes, &r.arena.starts, nodes, Check::Closedness)
+    Ok(answer_check(bytes, &read(bytes)?, Check::Closedness))
 }
 
-// A refusal of the reader; the first entry of 30 to 32; or accepted.
-pub fn demands(bytes: &[u8]) -> Answer
+// The first entry of 30 to 32, if there is one.
+pub fn demands(bytes: &[u8]) -> Result<Option<Finding>, Refusal>
     ensures { result ≡ demands_answer bytes.now }
 {
-    let r = read(bytes);
-    let v = r.verdict;
-    let Verdict::Counts { names: _, nodes } = v else {
-        return passed_answer(v);
-    };
-    answer_check(bytes, &r.arena.starts, nodes, Check::Demands)
+    Ok(answer_check(bytes, &read(bytes)?, Check::Demands))
 }
 
-// A refusal of the reader; or whether arithmetic is an operand of a comparison.
-pub fn arithmetic(bytes: &[u8]) -> Arithmetic
+// Whether arithmetic is an operand of a comparison.
+pub fn arithmetic(bytes: &[u8]) -> Result<bool, Refusal>
     ensures { result ≡ arithmetic_answer bytes.now }
 {
-    let r = read(bytes);
-    let v = r.verdict;
-    let Verdict::Counts { names: _, nodes } = v else {
-        return passed_arithmetic(v);
-    };
-    accepted::arithmetic(bytes, &r.arena.starts, nodes)
+    Ok(accepted::arithmetic(bytes, &read(bytes)?))
 }
 
-// A refusal of the reader; the entries needed, where the buffer has fewer; or the list, in the first entries of the buffer, and its length.
-pub fn list(bytes: &[u8], out: &mut [u32]) -> Listing
+// The list, in the first entries of the buffer, and its length; or the entries needed, where the buffer has fewer.
+pub fn list(bytes: &[u8], out: &mut [u32]) -> Result<usize, Unlisted>
     ensures { (result ≡ list_answer bytes.now (length out.old)) × (out.new ≡ list_buffer bytes.now out.old) }
 {
-    let r = read(bytes);
-    let v = r.verdict;
-    let Verdict::Counts { names, nodes } = v else {
-        return passed_listing(v);
-    };
-    let words = r.arena.reserved;
-    accepted::list(bytes, &r.arena.starts, names, nodes, words, out)
+    accepted::list(bytes, &read(bytes)?, out)
 }

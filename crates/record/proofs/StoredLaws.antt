@@ -5,10 +5,11 @@ use mathlib.Core.List.{List, []}
 use Prim.Native.Nat.{ℕ, ◌+◌, ◌*◌, ◌%◌, ◌<◌, ◌≤◌}
 use native.Mathlib.Omega.{arith}
 use lib.ListN.{length, get_or, take, drop, get_or-eq_default}
+use Rattle.std.specs.Prelude.{Ok, Err}
+use Rattle.paper.specs.declared.Refusal.{Refusal}
 use Rattle.paper.specs.declared.Node.{Node}
 use Rattle.paper.specs.declared.Node.TheVariants.{ListEnd}
-use Rattle.paper.specs.declared.Verdict.TheVariants.{Counts, Refused}
-use Rattle.paper.specs.TurnedAway.{Contents, Outcome, refused, accepted, verdict, read}
+use Rattle.paper.specs.TurnedAway.{Contents, Outcome, refused, accepted, counts, verdict, read}
 use Rattle.paper.specs.TheList.{trimmed, name_text}
 use Rattle.paper.specs.Questions.{name, name_of}
 use Rattle.paper.proofs.WellFormed.{WellFormed}
@@ -49,14 +50,14 @@ pub said : {columns : List ℕ} {i w kind n : ℕ} → Has columns i → w ≡ g
 said {columns} {i} {w} h p q e =
     held_at columns i h.1 ∙ ap (λ (x : ℕ). node_told (x % 0x10000) (places_in x)) (sym p) ∙ ap (λ (k : ℕ). node_told k (places_in w)) (sym q ∙ e)
 
--- the reader's arena holds the bytes
-pub read_stored : (bytes : List ℕ) (r : Reading) → Read bytes r → Stored bytes r.arena.starts
+-- the reader's starts are those of the bytes
+pub read_stored : (bytes : List ℕ) (r : Reading) → Read bytes (Ok r) → Stored bytes r.starts
 unfolding contents_of
 read_stored bytes r p = record { starts_are = λ i h. go (read bytes) refl i h }
   where
-    go : (o : Outcome) → read bytes ≡ o → (i : ℕ) → i < length (contents_of (read bytes)).nodes → get_or r.arena.starts i 0 ≡ start_of bytes (length (contents_of (read bytes)).names) i
+    go : (o : Outcome) → read bytes ≡ o → (i : ℕ) → i < length (contents_of (read bytes)).nodes → get_or r.starts i 0 ≡ start_of bytes (length (contents_of (read bytes)).names) i
     go (refused n k) e i h = absurd (let z = ap (λ (o : Outcome). length (contents_of o).nodes) e in omega arith)
-    go (accepted c) e i h = rw e ((p.held c e).starts i (rw e at h))
+    go (accepted c) e i h = rw e ((p.held r refl c e).starts i (rw e at h))
 
 -- ---- columns
 
@@ -77,22 +78,22 @@ module _ {bytes starts columns : List ℕ} {n k : ℕ} (t : Told bytes n k) (s :
 -- ---- names
 
 module _ (bytes : List ℕ) (x : ℕ) where
-  pub name_refused : (n o : ℕ) → verdict (read bytes) ≡ Refused n o → name bytes x ≡ []
+  pub name_refused : (f : Refusal) → verdict (read bytes) ≡ Err f → name bytes x ≡ []
   unfolding name name_of
-  name_refused n o e = ap (λ (r : Outcome). name_of r x) (refused_is bytes e)
+  name_refused f e = ap (λ (r : Outcome). name_of r x) (refused_is bytes e)
 
   name_told : {n k : ℕ} → Told bytes n k → name bytes x ≡ trimmed (get_or (contents bytes).names x [])
   unfolding name name_of name_text
   name_told t = ap (λ (r : Outcome). name_of r x) t.outcome
 
-  pub name_unknown : (n k : ℕ) → verdict (read bytes) ≡ Counts n k → n ≤ x → name bytes x ≡ []
+  pub name_unknown : (n k : ℕ) → verdict (read bytes) ≡ Ok (counts n k) → n ≤ x → name bytes x ≡ []
   unfolding trimmed
   name_unknown n k e h =
       let t = counts_are bytes e in
       let long = t.names_are in
       name_told t ∙ ap trimmed (get_or-eq_default (contents bytes).names [] {n = x} (omega arith))
 
-  pub name_known : (n k : ℕ) → verdict (read bytes) ≡ Counts n k → x < n → trimmed (take 24 (drop (3 + 25 * x) bytes)) ≡ name bytes x
+  pub name_known : (n k : ℕ) → verdict (read bytes) ≡ Ok (counts n k) → x < n → trimmed (take 24 (drop (3 + 25 * x) bytes)) ≡ name bytes x
   name_known n k e h =
       let t = counts_are bytes e in
       let long = t.names_are in

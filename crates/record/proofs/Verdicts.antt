@@ -4,17 +4,19 @@ use mathlib.Core.List.{List}
 use Prim.Native.Nat.{ℕ}
 use native.Mathlib.Omega.{arith}
 use lib.ListN.{length}
-use Rattle.paper.specs.declared.Verdict.TheVariants.{Counts, Refused}
-use Rattle.paper.specs.TurnedAway.{Contents, Outcome, refused, accepted, verdict, read}
+use Rattle.std.specs.Prelude.{Result, Ok, Err}
+use Rattle.paper.specs.declared.Counts.{Counts}
+use Rattle.paper.specs.declared.Refusal.{Refusal}
+use Rattle.paper.specs.TurnedAway.{Contents, Outcome, refused, accepted, counts, refusal, verdict, read}
 use Rattle.paper.proofs.WellFormed.{WellFormed, well_formed}
 use Rattle.record.specs.Stored.{contents_of, contents}
 
-pub refused_is : (bytes : List ℕ) {n o : ℕ} → verdict (read bytes) ≡ Refused n o → read bytes ≡ refused n o
+pub refused_is : (bytes : List ℕ) {f : Refusal} → verdict (read bytes) ≡ Err f → read bytes ≡ refused f.number f.offset
 unfolding verdict
-refused_is bytes {n} {o} e = go (read bytes) e
+refused_is bytes {f} e = go (read bytes) e
   where
-    go : (r : Outcome) → verdict r ≡ Refused n o → r ≡ refused n o
-    go (refused m p) e = cc
+    go : (r : Outcome) → verdict r ≡ Err f → r ≡ refused f.number f.offset
+    go (refused m p) e = let same : refusal m p ≡ f = cc in ap (λ (z : Refusal). refused z.number z.offset) same
     go (accepted c) e = absurd (let z : ◌≡◌ {A = ℕ} 0 1 = cc in omega arith)
 
 -- accepted bytes, by their counts
@@ -24,11 +26,11 @@ pub record Told (bytes : List ℕ) (names nodes : ℕ) : Type 0 where
   pub nodes_are : length (contents bytes).nodes ≡ nodes
   pub formed : WellFormed (contents bytes)
 
-pub counts_are : (bytes : List ℕ) {n k : ℕ} → verdict (read bytes) ≡ Counts n k → Told bytes n k
+pub counts_are : (bytes : List ℕ) {n k : ℕ} → verdict (read bytes) ≡ Ok (counts n k) → Told bytes n k
 unfolding verdict contents_of
 counts_are bytes {n} {k} e = go (read bytes) refl e
   where
-    go : (r : Outcome) → read bytes ≡ r → verdict r ≡ Counts n k → Told bytes n k
+    go : (r : Outcome) → read bytes ≡ r → verdict r ≡ Ok (counts n k) → Told bytes n k
     go (refused m p) d e = absurd (let z : ◌≡◌ {A = ℕ} 0 1 = cc in omega arith)
     go (accepted c) d e =
         let same : contents bytes ≡ c = ap contents_of d in
@@ -39,8 +41,8 @@ counts_are bytes {n} {k} e = go (read bytes) refl e
           formed = well_formed bytes (contents bytes) (d ∙ ap accepted (sym same));
         }
       where
-        counted_names : {a b n k : ℕ} → Counts a b ≡ Counts n k → a ≡ n
-        counted_names e = cc
+        counted_names : {a b n k : ℕ} → ◌≡◌ {A = Result Counts Refusal} (Ok (counts a b)) (Ok (counts n k)) → a ≡ n
+        counted_names {a} {b} {n} {k} e = let same : counts a b ≡ counts n k = cc in ap (λ (z : Counts). z.names) same
 
-        counted_nodes : {a b n k : ℕ} → Counts a b ≡ Counts n k → b ≡ k
-        counted_nodes e = cc
+        counted_nodes : {a b n k : ℕ} → ◌≡◌ {A = Result Counts Refusal} (Ok (counts a b)) (Ok (counts n k)) → b ≡ k
+        counted_nodes {a} {b} {n} {k} e = let same : counts a b ≡ counts n k = cc in ap (λ (z : Counts). z.nodes) same

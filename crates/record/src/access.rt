@@ -8,7 +8,7 @@ ghost use Rattle.record.specs.Stored.{held, Has};
 use crate::reader::read;
 use memory::Numbers;
 use nodes::{node_of, numbers_in};
-use paper::{NameNo, Node, NodeNo, Verdict};
+use paper::{NameNo, Node, NodeNo};
 use words::unpadded;
 
 // A node's word. Of those that read, the one function that knows where a node lies.
@@ -50,12 +50,11 @@ fn stretch(bytes: &[u8], at: usize) -> &[u8]
 pub fn name(bytes: &[u8], x: NameNo) -> &[u8]
     ensures { result.now ≡ name_asked bytes.now x.0 }
 {
-    let r = read(bytes);
-    let v = r.verdict;
-    let Verdict::Counts { names, nodes: _ } = v else {
+    let Ok(reading) = read(bytes) else {
         // Nothing stands past the end.
         return stretch(bytes, bytes.len());
     };
+    let names = reading.counts.names;
     let k = x.0 as usize;
     if names <= k {
         return &bytes[..0];

@@ -2,35 +2,27 @@
 ghost use Rattle.record.specs.Arena.{Read};
 
 use names::Names;
-use paper::Verdict;
+use paper::{Counts, Refusal};
 use scan::scan_records;
 
-// Where each node's record starts, 65535 for none; and which names of the table are reserved.
+// What accepted bytes come to: how many names and nodes they hold, where each node's record starts, 65535 for none, and which names of the table are reserved.
 #[derive(Drop)]
-pub struct Arena {
+pub struct Reading {
+    pub counts: Counts,
     pub starts: [u16; 512],
     pub reserved: Names,
 }
 
-#[derive(Drop)]
-pub struct Reading {
-    pub verdict: Verdict,
-    pub arena: Arena,
-}
-
-pub fn read(bytes: &[u8]) -> Reading
+pub fn read(bytes: &[u8]) -> Result<Reading, Refusal>
     ensures { Read bytes.now result }
 {
     let mut starts = [65535u16; 512];
-    let s = scan_records(bytes, &mut starts);
-    let verdict = s.verdict;
-    let reserved = s.reserved;
-    let arena = Arena {
-        starts: starts,
-        reserved: reserved,
-    };
-    Reading {
-        verdict: verdict,
-        arena: arena,
-    }
+    let scanned = scan_records(bytes, &mut starts);
+    let counts = scanned.verdict?;
+    let reserved = scanned.reserved;
+    Ok(Reading {
+        counts,
+        starts,
+        reserved,
+    })
 }

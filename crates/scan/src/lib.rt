@@ -1,8 +1,8 @@
 // The walk over the records.
 #![tactic(auto)]
 
-ghost use Rattle.std.specs.Prelude.{◌≡◌, length};
-ghost use Rattle.paper.specs.declared.Verdict.TheVariants.{Refused};
+ghost use Rattle.std.specs.Prelude.{◌≡◌, length, Err};
+ghost use Rattle.paper.specs.TurnedAway.{refusal};
 ghost use Rattle.memory.specs.Faults.{number};
 ghost use Rattle.memory.specs.Starts.{Scan};
 
@@ -13,20 +13,19 @@ use kinds::row_of;
 use memory::{Fault, Head, Scanned};
 use names::Names;
 use octets::byte;
-use paper::Verdict;
+use paper::Refusal;
 use table::{add_name, reserved_with};
 use words::copied;
 
 fn refused(fault: Fault, offset: usize, reserved: Names) -> Scanned
-    ensures { result.verdict ≡ Refused (number fault) offset }
+    ensures { result.verdict ≡ Err (refusal (number fault) offset) }
 {
-    let v = Verdict::Refused {
-        number: fault as u8,
-        offset: offset,
-    };
     Scanned {
-        verdict: v,
-        reserved: reserved,
+        verdict: Err(Refusal {
+            number: fault as u8,
+            offset,
+        }),
+        reserved,
     }
 }
 
@@ -78,10 +77,9 @@ pub fn scan_records(bytes: &[u8], starts: &mut [u16; 512]) -> Scanned
                 at = next;
             }
             Ok(Head::End) => {
-                let v = ended(body, at, nn, nk, &nodes.kinds, &nodes.used);
                 return Scanned {
-                    verdict: v,
-                    reserved: reserved,
+                    verdict: ended(body, at, nn, nk, &nodes.kinds, &nodes.used),
+                    reserved,
                 };
             }
         }

@@ -9,8 +9,7 @@ use denote.Enum.Declared.{tag_of}
 use Rattle.paper.specs.contracts.Node.{the_type}
 use Rattle.paper.specs.declared.NodeNo.{NodeNo}
 use Rattle.paper.specs.declared.NameNo.{NameNo}
-use Rattle.paper.specs.declared.Subject.{Subject}
-use Rattle.paper.specs.declared.Subject.TheVariants as subject
+use Rattle.std.specs.Prelude.{Option, None}
 use Rattle.paper.specs.declared.Reason.TheVariants as reason
 use Rattle.paper.specs.declared.Equality.{Equality}
 use Rattle.paper.specs.declared.Equality.TheVariants.{Left, Right, Nothing}
@@ -85,7 +84,7 @@ module _ {columns : List ℕ} {i : ℕ} where
 -- ---- what an equality ties
 
 -- the bare variables of its sides decide
-pub by_sides : (l r : Term) {p q : Subject} → bare l ≡ p → bare r ≡ q → equality l r ≡ by_bare p q l r
+pub by_sides : (l r : Term) {p q : Option NameNo} → bare l ≡ p → bare r ≡ q → equality l r ≡ by_bare p q l r
 unfolding equality
 by_sides l r e d = rw (e, d)
 
@@ -113,10 +112,10 @@ no_wildcard t n =
     (λ y h. refl) (λ f x l h. absurd (miss no_wildcard_kinds 26 tt h)) (λ x l h. absurd (miss no_wildcard_kinds 27 tt h)) (λ m e h. refl)
 
 -- no variable
-pub not_bare : (t : ℕ → Tree) (n : NodeNo) (k : ℕ) (ps : List ℕ) → Rest (0x20 ∷ []) k (Unit {0}) → bare (as_term (planted t n (node_told k ps))) ≡ subject.NoName
+pub not_bare : (t : ℕ → Tree) (n : NodeNo) (k : ℕ) (ps : List ℕ) → Rest (0x20 ∷ []) k (Unit {0}) → bare (as_term (planted t n (node_told k ps))) ≡ None
 unfolding node_told planted as_term bare Away
 not_bare t n k ps rest =
-    by_number (λ m. bare (as_term (planted t n m)) ≡ subject.NoName) (0x20 ∷ []) k ps
+    by_number (λ m. bare (as_term (planted t n m)) ≡ None) (0x20 ∷ []) k ps
     ((λ a. refl), ((λ a. refl), ((λ a. refl), ((λ a. refl), ((λ a. refl), ((λ a. refl), ((λ a. refl), ((λ a. refl), ((λ a. refl), ((λ a. refl), ((λ a. refl), ((λ a. refl), ((λ a. refl), ((λ a. absurd (a.0 refl)), ((λ a. refl), ((λ a. refl), ((λ a. refl), ((λ a. refl), ((λ a. refl), ((λ a. refl), ((λ a. refl), ((λ a. refl), ((λ a. refl), ((λ a. refl), ((λ a. refl), ((λ a. refl), ((λ a. refl), ((λ a. refl), tt))))))))))))))))))))))))))))
     refl (rest_away (0x20 ∷ []) k (Unit {0}) rest).1
 

@@ -9,7 +9,7 @@ ghost use Rattle.trees.specs.Terms.{wildcard_in};
 
 use memory::PLACE_0;
 use nodes::{kind_in, lower, number_in};
-use paper::{Equality, NameNo, Node, NodeNo, Reason, Subject};
+use paper::{Equality, NameNo, Node, NodeNo, Reason};
 use record::access::{node_at, word_at};
 
 // Of a term, or of the terms of a list.
@@ -29,14 +29,14 @@ pub fn term_contains_wildcard(columns: &[u64; 513], i: NodeNo) -> bool
 }
 
 // The variable that is the whole term, if there is one.
-pub fn bare_var(columns: &[u64; 513], i: NodeNo) -> Subject
+pub fn bare_var(columns: &[u64; 513], i: NodeNo) -> Option<NameNo>
     requires { Has columns.now i.0 }
     ensures { result ≡ bare (term_of columns.now i.0) }
 {
     let word = word_at(columns, i);
     match kind_in(word) {
-        0x20 => Subject::Name(NameNo(lower(number_in(word, PLACE_0)))),
-        _ => Subject::NoName,
+        0x20 => Some(NameNo(lower(number_in(word, PLACE_0)))),
+        _ => None,
     }
 }
 
@@ -67,14 +67,10 @@ pub fn eq_restricted_var(columns: &[u64; 513], l: NodeNo, r: NodeNo) -> Equality
 {
     let left = bare_var(columns, l);
     let right = bare_var(columns, r);
-    match left {
-        Subject::Name(x) => match right {
-            Subject::Name(_) => Equality::Nothing(Reason::BothBare),
-            Subject::NoName => unless(columns, r, Equality::Left(x)),
-        },
-        Subject::NoName => match right {
-            Subject::Name(y) => unless(columns, l, Equality::Right(y)),
-            Subject::NoName => Equality::Nothing(Reason::NeitherBare),
-        },
+    match (left, right) {
+        (Some(_), Some(_)) => Equality::Nothing(Reason::BothBare),
+        (Some(x), None) => unless(columns, r, Equality::Left(x)),
+        (None, Some(y)) => unless(columns, l, Equality::Right(y)),
+        (None, None) => Equality::Nothing(Reason::NeitherBare),
     }
 }

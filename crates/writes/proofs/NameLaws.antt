@@ -5,7 +5,7 @@ use mathlib.Core.List.{List, [], ◌∷◌, map}
 use Prim.Native.Nat.{ℕ}
 use Rattle.paper.specs.declared.NameNo.{NameNo}
 use Rattle.paper.specs.declared.NodeNo.{NodeNo}
-use Rattle.paper.specs.declared.Subject.TheVariants.{Name}
+use Rattle.std.specs.Prelude.{Some}
 use Rattle.paper.specs.declared.Finding.{Finding}
 use Rattle.paper.specs.Record.{name_no}
 use Rattle.paper.specs.Sets.{Set, outside, all_below, members}
@@ -15,7 +15,7 @@ use Rattle.names.specs.Ascending.{ascending}
 
 -- a rule's entries at a node for names one after the other
 abbrev pub for_each : ℕ → NodeNo → List NameNo → List Finding
-for_each rule n = map (λ (x : NameNo). record { rule = rule; node = n; name = Name x })
+for_each rule n = map (λ (x : NameNo). record { rule = rule; node = n; name = Some x })
 
 pub for_same : (rule : ℕ) (n : NodeNo) {s t : Set} → s ≡ t → findings (for_names rule n t) ≡ findings (for_names rule n s)
 for_same rule n e = ap (λ (z : Set). findings (for_names rule n z)) (sym e)

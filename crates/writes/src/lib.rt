@@ -5,18 +5,18 @@ ghost use Rattle.std.specs.Prelude.{◌≡◌, [], ◌∷◌, ◌<◌};
 ghost use Rattle.paper.specs.TheList.{subject_of, name_or_255, pack as packs, unpack as unpacks};
 ghost use Rattle.paper.specs.Places.{for_names, findings};
 ghost use Rattle.names.specs.Words.{mem};
-ghost use Rattle.writes.specs.Written.{Room, Wrote, answer_of};
+ghost use Rattle.writes.specs.Written.{Room, Wrote, first_of};
 
 use names::Names;
-use paper::{Answer, Finding, NameNo, NodeNo, Subject};
+use paper::{Finding, NameNo, NodeNo};
 
 // A name as document 01's number: 255 is none.
-pub fn name_or_255(s: Subject) -> u8
-    ensures { result ≡ name_or_255 s }
+pub fn name_or_255(name: Option<NameNo>) -> u8
+    ensures { result ≡ name_or_255 name }
 {
-    match s {
-        Subject::Name(x) => x.0,
-        Subject::NoName => 255,
+    match name {
+        Some(x) => x.0,
+        None => 255,
     }
 }
 
@@ -24,18 +24,17 @@ pub fn name_or_255(s: Subject) -> u8
 fn pack(f: Finding) -> u32
     ensures { result ≡ packs f }
 {
-    let subject = f.name;
-    let name = name_or_255(subject);
+    let name = name_or_255(f.name);
     (f.rule as u32) * 16777216 + (f.node.0 as u32) * 256 + (name as u32)
 }
 
-fn subject_of(x: u8) -> Subject
+fn subject_of(x: u8) -> Option<NameNo>
     ensures { result ≡ subject_of x }
 {
     if x == 255 {
-        return Subject::NoName;
+        return None;
     }
-    Subject::Name(NameNo(x))
+    Some(NameNo(x))
 }
 
 // The entry that a number stands for.
@@ -71,20 +70,19 @@ pub fn emit(out: &mut [u32], at: usize, rule: u8, n: NodeNo, s: Names) -> usize
         let f = Finding {
             rule: rule,
             node: n,
-            name: Subject::Name(x),
+            name: Some(x),
         };
         p = put(out, p, f);
     }
     p
 }
 
-// What a check answers, from the count of its entries and the first of them.
-pub fn first(count: usize, v: u32) -> Answer
-    ensures { result ≡ answer_of count v }
+// The first entry that a check found, if it found one, from the count of its entries and the first of their numbers.
+pub fn first(count: usize, v: u32) -> Option<Finding>
+    ensures { result ≡ first_of count v }
 {
     if count == 0 {
-        return Answer::Accepted;
+        return None;
     }
-    let f = unpack(v);
-    Answer::Unmet(f)
+    Some(unpack(v))
 }

@@ -6,7 +6,7 @@ use Prim.Native.Nat.{ℕ}
 use borrow.Enum.Refused.{opened}
 use Rattle.paper.specs.declared.NodeNo.{NodeNo}
 use Rattle.paper.specs.declared.NameNo.{NameNo}
-use Rattle.paper.specs.declared.Subject.TheVariants.{Name as Named}
+use Rattle.std.specs.Prelude.{Some}
 use Rattle.paper.specs.declared.Slot.{Slot}
 use Rattle.paper.specs.declared.Slot.TheVariants.{Name}
 use Rattle.paper.specs.Sets.{Set}
@@ -17,7 +17,7 @@ use Rattle.cells.proofs.AggregateLaws.{no_cell_entry}
 use Rattle.cells.proofs.emit_cell.Goals as goal
 
 has_name : (rule : ℕ) (s : Set) (n : NodeNo) (x : NameNo) {slot : Slot} → slot ≡ Name x → s x.0 ≡ true
-    → findings (at_cells rule s (cell_of n slot)) ≡ record { rule = rule; node = n; name = Named x } ∷ []
+    → findings (at_cells rule s (cell_of n slot)) ≡ record { rule = rule; node = n; name = Some x } ∷ []
 unfolding findings gather at_cell cell_of
 has_name rule s n x e h = rw (e, h)
 

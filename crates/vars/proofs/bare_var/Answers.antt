@@ -2,7 +2,7 @@
 use mathlib.Core.Path.{refl, sym, ap, ◌∙◌}
 use Prim.Native.Nat.{ℕ, ◌%◌}
 use native.Mathlib.Omega.{arith}
-use Rattle.paper.specs.declared.Subject.TheVariants.{Name}
+use Rattle.std.specs.Prelude.{Some}
 use Rattle.paper.specs.Record.{name_no}
 use Rattle.paper.specs.FreeAndRestricted.{bare}
 use Rattle.memory.specs.Columns.{node_told}
@@ -16,7 +16,7 @@ pub returns-in-32 : goal.returns-in-32
 unfolding node_told
 returns-in-32 c =
     let e = said c.requires c.word_at-word.ensures c.kind_in.ensures c.in-32.is in
-    ap (λ (x : ℕ). Name (name_no x)) (c.lower.ensures ∙ ap (λ (x : ℕ). x % 256) c.number_in.ensures)
+    ap (λ (x : ℕ). Some (name_no x)) (c.lower.ensures ∙ ap (λ (x : ℕ). x % 256) c.number_in.ensures)
     ∙ sym (bare_here (arm _ _ _ _ c.requires refl e))
 
 pub returns-in_default : goal.returns-in_default

@@ -2,10 +2,10 @@ use borrow.Author.Rules.{rules}
 use Rattle.paper.specs.TheList.{name_or_255}
 use Rattle.writes.proofs.name_or_255.Goals as goal
 
-pub returns-in-Name : goal.returns-in-Name
+pub returns-in-Some : goal.returns-in-Some
 unfolding name_or_255
-returns-in-Name c = search rules
+returns-in-Some c = search rules
 
-pub returns-in-NoName : goal.returns-in-NoName
+pub returns-in-None : goal.returns-in-None
 unfolding name_or_255
-returns-in-NoName c = search rules
+returns-in-None c = search rules

@@ -1,6 +1,7 @@
 use mathlib.Core.Path.{ap}
 use Prim.Native.Nat.{◌/◌, ◌%◌}
-use Rattle.paper.specs.declared.Subject.{Subject}
+use Rattle.std.specs.Prelude.{Option}
+use Rattle.paper.specs.declared.NameNo.{NameNo}
 use Rattle.paper.specs.declared.Finding.{Finding}
 use Rattle.paper.specs.Record.{node_no}
 use Rattle.paper.specs.TheList.{unpack}
@@ -10,4 +11,4 @@ pub returns : goal.returns
 unfolding unpack
 returns c =
     let v = c.args.v in
-    ap {B = Finding} (λ (z : Subject). record { rule = v / 16777216; node = node_no (v / 256 % 65536); name = z }) c.subject_of-name.ensures
+    ap {B = Finding} (λ (z : Option NameNo). record { rule = v / 16777216; node = node_no (v / 256 % 65536); name = z }) c.subject_of-name.ensures
