@@ -12,7 +12,7 @@ use Rattle.paper.specs.declared.Node.{Node}
 use Rattle.paper.specs.declared.Finding.{Finding}
 use Rattle.names.specs.declared.Names.{Names}
 use Rattle.paper.specs.declared.Unlisted.TheVariants.{NoRoom}
-use Rattle.paper.specs.Record.{pick, node_no}
+use Rattle.paper.specs.Record.{node_no}
 use Rattle.paper.specs.TurnedAway.{read}
 use Rattle.paper.specs.Sets.{Set, none}
 use Rattle.paper.specs.Tree.{Condition, as_condition, tree_at, root_no, root}

@@ -12,7 +12,7 @@ use columns::fill;
 use entries::part_entries;
 use listing::Check;
 use paper::{Counts, Finding, NodeNo, Unlisted};
-use record::reader::Reading;
+use record::reader::Arena;
 use whole::list_entries;
 use writes::first;
 
@@ -33,40 +33,37 @@ fn most_entries(names: usize, nodes: usize) -> usize
 }
 
 // The first entry of the part that a check asks for, if it has one.
-pub fn answer_check(bytes: &[u8], reading: &Reading, check: Check) -> Option<Finding>
-    requires { Ready bytes.now reading.now.starts reading.now.counts.nodes × ReservedFor bytes.now check }
+pub fn answer_check(bytes: &[u8], arena: &Arena, nodes: usize, check: Check) -> Option<Finding>
+    requires { Ready bytes.now arena.now.starts nodes × ReservedFor bytes.now check }
     ensures { Ok result ≡ answered (part_asked check) (read bytes.now) }
 {
-    let nodes = reading.counts.nodes;
     let mut columns = [0u64; 513];
-    fill(bytes, &reading.starts, nodes, &mut columns);
+    fill(bytes, &arena.starts, nodes, &mut columns);
     let mut one = [0u32; 1];
     let count = part_entries(&columns, root(nodes), check, &mut one);
     first(count, one[0])
 }
 
 // Whether arithmetic is an operand of a comparison.
-pub fn arithmetic(bytes: &[u8], reading: &Reading) -> bool
-    requires { Ready bytes.now reading.now.starts reading.now.counts.nodes }
+pub fn arithmetic(bytes: &[u8], arena: &Arena, nodes: usize) -> bool
+    requires { Ready bytes.now arena.now.starts nodes }
     ensures { Ok result ≡ arithmetic_answer bytes.now }
 {
-    let nodes = reading.counts.nodes;
     let mut columns = [0u64; 513];
-    fill(bytes, &reading.starts, nodes, &mut columns);
+    fill(bytes, &arena.starts, nodes, &mut columns);
     condition_has_arith(&columns, root(nodes))
 }
 
 // The list, in the first entries of the buffer, and its length; or the entries needed, where the buffer has fewer.
-pub fn list(bytes: &[u8], reading: &Reading, out: &mut [u32]) -> Result<usize, Unlisted>
-    requires { Ready bytes.now reading.now.starts reading.now.counts.nodes × Reserved bytes.now reading.now.reserved × Counted bytes.now reading.now.counts.names reading.now.counts.nodes }
+pub fn list(bytes: &[u8], arena: &Arena, counts: Counts, out: &mut [u32]) -> Result<usize, Unlisted>
+    requires { Ready bytes.now arena.now.starts counts.nodes × Reserved bytes.now arena.now.reserved × Counted bytes.now counts.names counts.nodes }
     ensures { (result ≡ list_answer bytes.now (length out.old)) × (out.new ≡ list_buffer bytes.now out.old) }
 {
-    let Counts { names, nodes } = reading.counts;
     let mut columns = [0u64; 513];
-    fill(bytes, &reading.starts, nodes, &mut columns);
+    fill(bytes, &arena.starts, counts.nodes, &mut columns);
     let room = out.len();
-    let most = most_entries(names, nodes);
-    let count = list_entries(&columns, root(nodes), reading.reserved, most, out);
+    let most = most_entries(counts.names, counts.nodes);
+    let count = list_entries(&columns, root(counts.nodes), arena.reserved, most, out);
     if room < count {
         return Err(Unlisted::NoRoom { needed: count });
     }

@@ -6,9 +6,8 @@ use lib.ListN.{length}
 use contract.Lifetimes.{Lfts}
 use denote.Triple.Clauses.{AtExit}
 use borrow.Fn.Kinds.{Dens, res_t, ended_of}
-use Rattle.paper.specs.declared.Listing.{Listing}
 use Rattle.paper.specs.TurnedAway.{Contents, accepted, read}
-use Rattle.paper.specs.Questions.{listing_numbers, list}
+use Rattle.paper.specs.Questions.{Listing, listing_numbers, list}
 use Rattle.questions.proofs.WholeWay.{WholeWay, whole_way}
 use Rattle.numbers.specs.Numbers.{asked}
 use Rattle.noravilump.proofs.noravilump_list.Reads as c_list

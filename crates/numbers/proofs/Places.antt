@@ -3,11 +3,8 @@ use mathlib.Core.Path.{◌≡◌, sym, subst}
 use mathlib.Core.List.{List}
 use Prim.Native.Nat.{ℕ, ◌≤◌, ◌<◌}
 use native.Mathlib.Omega.{arith}
-use Rattle.paper.specs.declared.Answer.{Answer}
-use Rattle.paper.specs.declared.Arithmetic.{Arithmetic}
-use Rattle.paper.specs.declared.Listing.{Listing}
 use Rattle.paper.specs.Sets.{Set}
-use Rattle.paper.specs.Questions.{answer_numbers, arithmetic_numbers, listing_numbers, scoping, closedness, demands, arithmetic, list}
+use Rattle.paper.specs.Questions.{Answer, Arithmetic, Listing, answer_numbers, arithmetic_numbers, listing_numbers, scoping, closedness, demands, arithmetic, list}
 use Rattle.paper.proofs.Offsets.{scoping_place, closedness_place, demands_place, arithmetic_place, list_place}
 
 fits : (place : ℕ) → place ≤ 262272 → place < 4294967296

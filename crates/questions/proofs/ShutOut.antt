@@ -15,7 +15,7 @@ use store.Seg.{take-pre}
 use contract.Lifetimes.{Lfts}
 use denote.Triple.Clauses.{AtExit}
 use borrow.Fn.Kinds.{ParamKind, ResultKind, Dens, res_t, ended_of}
-use Rattle.std.specs.Prelude.{true, false, Some, None, Ok, Err}
+use Rattle.std.specs.Prelude.{true, false, Some, None, Ok}
 use Rattle.paper.specs.declared.Finding.{Finding}
 use Rattle.paper.specs.declared.Counts.{Counts}
 use Rattle.paper.specs.Sets.{none}

@@ -51,13 +51,13 @@ said {columns} {i} {w} h p q e =
     held_at columns i h.1 ∙ ap (λ (x : ℕ). node_told (x % 0x10000) (places_in x)) (sym p) ∙ ap (λ (k : ℕ). node_told k (places_in w)) (sym q ∙ e)
 
 -- the reader's starts are those of the bytes
-pub read_stored : (bytes : List ℕ) (r : Reading) → Read bytes (Ok r) → Stored bytes r.starts
+pub read_stored : (bytes : List ℕ) (r : Reading) → Read bytes r → Stored bytes r.arena.starts
 unfolding contents_of
 read_stored bytes r p = record { starts_are = λ i h. go (read bytes) refl i h }
   where
-    go : (o : Outcome) → read bytes ≡ o → (i : ℕ) → i < length (contents_of (read bytes)).nodes → get_or r.starts i 0 ≡ start_of bytes (length (contents_of (read bytes)).names) i
+    go : (o : Outcome) → read bytes ≡ o → (i : ℕ) → i < length (contents_of (read bytes)).nodes → get_or r.arena.starts i 0 ≡ start_of bytes (length (contents_of (read bytes)).names) i
     go (refused n k) e i h = absurd (let z = ap (λ (o : Outcome). length (contents_of o).nodes) e in omega arith)
-    go (accepted c) e i h = rw e ((p.held r refl c e).starts i (rw e at h))
+    go (accepted c) e i h = rw e ((p.held c e).starts i (rw e at h))
 
 -- ---- columns
 

@@ -50,13 +50,13 @@ fn stretch(bytes: &[u8], at: usize) -> &[u8]
 pub fn name(bytes: &[u8], x: NameNo) -> &[u8]
     ensures { result.now ≡ name_asked bytes.now x.0 }
 {
-    let Ok(reading) = read(bytes) else {
+    let reading = read(bytes);
+    let Ok(counts) = reading.verdict else {
         // Nothing stands past the end.
         return stretch(bytes, bytes.len());
     };
-    let names = reading.counts.names;
     let k = x.0 as usize;
-    if names <= k {
+    if counts.names <= k {
         return &bytes[..0];
     }
     unpadded(stretch(bytes, 3 + 25 * k))

@@ -1,22 +1,9 @@
--- A refusal of the reader as each question's answer: "passed up unchanged". No question passes on counts: they would be refused, since code
--- that cannot be reached fails shut. Assumes nothing: these are definitions.
-use Rattle.paper.specs.declared.Verdict.{Verdict}
-use Rattle.paper.specs.declared.Verdict.TheVariants.{Counts, Refused}
-use Rattle.paper.specs.declared.Answer.{Answer}
-use Rattle.paper.specs.declared.Answer.TheVariants as answer
-use Rattle.paper.specs.declared.Arithmetic.{Arithmetic}
-use Rattle.paper.specs.declared.Arithmetic.TheVariants as arithmetic
-use Rattle.paper.specs.declared.Listing.{Listing}
-use Rattle.paper.specs.declared.Listing.TheVariants as listing
+-- The refusal that every question passes up. Assumes nothing: this is a definition.
+use Rattle.std.specs.Prelude.{Result, Ok, Err}
+use Rattle.paper.specs.declared.Counts.{Counts}
+use Rattle.paper.specs.declared.Refusal.{Refusal}
+use Rattle.paper.specs.TurnedAway.{refusal}
 
-unfoldable pub answer_passed : Verdict → Answer
-answer_passed (Counts names nodes) = answer.Refused 1 0
-answer_passed (Refused number offset) = answer.Refused number offset
-
-unfoldable pub arithmetic_passed : Verdict → Arithmetic
-arithmetic_passed (Counts names nodes) = arithmetic.Refused 1 0
-arithmetic_passed (Refused number offset) = arithmetic.Refused number offset
-
-unfoldable pub listing_passed : Verdict → Listing
-listing_passed (Counts names nodes) = listing.Refused 1 0
-listing_passed (Refused number offset) = listing.Refused number offset
+abbrev pub passed : Result Counts Refusal → Refusal
+passed (Err r) = r
+passed (Ok c) = refusal 1 0

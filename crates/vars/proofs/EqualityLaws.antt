@@ -9,7 +9,7 @@ use denote.Enum.Declared.{tag_of}
 use Rattle.paper.specs.contracts.Node.{the_type}
 use Rattle.paper.specs.declared.NodeNo.{NodeNo}
 use Rattle.paper.specs.declared.NameNo.{NameNo}
-use Rattle.std.specs.Prelude.{Option, None}
+use Rattle.std.specs.Prelude.{Option, Some, None}
 use Rattle.paper.specs.declared.Reason.TheVariants as reason
 use Rattle.paper.specs.declared.Equality.{Equality}
 use Rattle.paper.specs.declared.Equality.TheVariants.{Left, Right, Nothing}
@@ -44,7 +44,7 @@ wildcard_terms =
       no_item = λ n. refl;
     }
 
-same_name : {x y : NameNo} → subject.Name x ≡ subject.Name y → x ≡ y
+same_name : {x y : NameNo} → Some x ≡ Some y → x ≡ y
 same_name e = cc
 
 module _ {columns : List ℕ} {i : ℕ} where
@@ -57,18 +57,18 @@ module _ {columns : List ℕ} {i : ℕ} where
   pub in_term : {A : Type 0} (f : Term → A) {m : Node} → Arm columns i m → f (term_of columns i) ≡ f (as_term (planted (tree_of columns) (node_no i) m))
   in_term f a = ap (λ (t : Tree). f (as_term t)) a.tree
 
-  pub bare_here : {x : NameNo} → Arm columns i (node.Var x) → bare (term_of columns i) ≡ subject.Name x
+  pub bare_here : {x : NameNo} → Arm columns i (node.Var x) → bare (term_of columns i) ≡ Some x
   unfolding planted as_term bare
   bare_here a = in_term bare a
 
   -- a bare variable is in the table
-  pub bare_tabled : Has columns i → {x : NameNo} → bare (term_of columns i) ≡ subject.Name x → x.0 < 128
+  pub bare_tabled : Has columns i → {x : NameNo} → bare (term_of columns i) ≡ Some x → x.0 < 128
   unfolding bare
   bare_tabled h {x} e = here (get_or (held columns) i node.ListEnd) (arm columns i _ _ h refl refl)
     where
       here : (m : Node) → Arm columns i m → x.0 < 128
       here m a =
-          term_cases (tree_of columns) (node_no i) (λ m z. All (λ y. y < 128) (names_in m) → bare z ≡ subject.Name x → x.0 < 128)
+          term_cases (tree_of columns) (node_no i) (λ m z. All (λ y. y < 128) (names_in m) → bare z ≡ Some x → x.0 < 128)
           (λ y a e. subst (λ (z : NameNo). z.0 < 128) (same_name e) a.0) (λ a e. absurd (no_name e)) (λ y a e. absurd (no_name e)) (λ y a e. absurd (no_name e))
           (λ y a e. absurd (no_name e)) (λ k a e. absurd (no_name e)) (λ k a e. absurd (no_name e)) (λ l a e. absurd (no_name e)) (λ o l r a e. absurd (no_name e))
           (λ s l b a e. absurd (no_name e)) (λ l b a e. absurd (no_name e)) (λ y a e. absurd (no_name e)) (λ m o a e. absurd (no_name e))

@@ -14,17 +14,17 @@ const NO_NAME: u8 = 255;
 
 const HEAD: &str = "\
 -- What the definitions say of each input, and what a plain second implementation says: the same, by computation.
-use Rattle.std.specs.Prelude.{ℕ, zero, suc, ◌≡◌, refl, Bool, false, ◌||◌, List, [], ◌∷◌, ◌++◌, map, eqb, length}
+use Rattle.std.specs.Prelude.{ℕ, zero, suc, ◌≡◌, refl, Bool, false, ◌||◌, List, [], ◌∷◌, ◌++◌, map, eqb, length, Result, Ok, Err}
 use Rattle.paper.specs.declared.NodeNo.{NodeNo}
 use Rattle.paper.specs.declared.Node.{Node}
-use Rattle.paper.specs.declared.Verdict.{Verdict}
-use Rattle.paper.specs.declared.Verdict.TheVariants.{Counts, Refused}
+use Rattle.paper.specs.declared.Counts.{Counts}
+use Rattle.paper.specs.declared.Refusal.{Refusal}
 use Rattle.paper.specs.declared.Reason.TheVariants as reason
 use Rattle.paper.specs.declared.Equality.{Equality}
 use Rattle.paper.specs.declared.Equality.TheVariants.{Left, Right, Nothing}
 use Rattle.paper.specs.Record.{pick, node_no, name_no}
 use Rattle.paper.specs.TurnedAway as reader
-use Rattle.paper.specs.TurnedAway.{Outcome, read, verdict}
+use Rattle.paper.specs.TurnedAway.{Outcome, counts, refusal, read, verdict}
 use Rattle.paper.specs.Tree.{Condition, as_condition, tree_at}
 use Rattle.paper.specs.Tree.Condition.{And, Or, Not, Past, Since, Exists, Comparison, Predicate, Refine, Tp, Opaque}
 use Rattle.paper.specs.FreeAndRestricted.{equality, is_equality}
@@ -46,7 +46,7 @@ pub record Tested : Type 0 where
   pub says : Equality
 
 pub record Told : Type 0 where
-  pub counted : Verdict
+  pub counted : Result Counts Refusal
   pub listed : Numbers
   pub buffer : List ℕ
   pub arithmetic : Numbers
@@ -105,10 +105,10 @@ numbers number place name = record { number = number; place = place; name = name
 abbrev tested : ℕ → Equality → Tested
 tested node says = record { node = node_no node; says = says }
 
-abbrev accepted : Verdict → Numbers → List ℕ → Numbers → Numbers → Numbers → Numbers → List ℕ → List Tested → Told
-accepted counts listing buffer yes_or_no first_20_to_27 first_28 first_30_to_32 text each_tested =
+abbrev accepted : Counts → Numbers → List ℕ → Numbers → Numbers → Numbers → Numbers → List ℕ → List Tested → Told
+accepted counted listing buffer yes_or_no first_20_to_27 first_28 first_30_to_32 text each_tested =
     record {
-      counted = counts;
+      counted = Ok counted;
       listed = listing;
       buffer = buffer;
       arithmetic = yes_or_no;
@@ -122,7 +122,7 @@ accepted counts listing buffer yes_or_no first_20_to_27 first_28 first_30_to_32 
 abbrev refused : ℕ → ℕ → List ℕ → Told
 refused number offset buffer =
     record {
-      counted = Refused number offset;
+      counted = Err (refusal number offset);
       listed = numbers number offset 255;
       buffer = buffer;
       arithmetic = numbers number offset 255;
@@ -191,7 +191,7 @@ fn told(input: &Input) -> String {
             format!("refused {number} {offset} {}", list(&input.lent))
         }
         Answers::Accepted(accepted) => format!(
-            "accepted (Counts {} {}) {} {} {} {} {} {} {} {}",
+            "accepted (counts {} {}) {} {} {} {} {} {} {} {}",
             accepted.names,
             accepted.nodes,
             listing(accepted.entries, input.lent.len()),

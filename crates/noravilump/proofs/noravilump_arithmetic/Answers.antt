@@ -1,7 +1,6 @@
 -- `noravilump_arithmetic` says the answer in numbers, and its place fits.
 use mathlib.Core.Path.{ap, ◌∙◌}
-use Rattle.paper.specs.declared.Arithmetic.{Arithmetic}
-use Rattle.paper.specs.Questions.{arithmetic_numbers}
+use Rattle.paper.specs.Questions.{Arithmetic, arithmetic_numbers}
 use Rattle.numbers.specs.Numbers.{asked}
 use Rattle.numbers.proofs.Places.{arithmetic_fits}
 use Rattle.noravilump.proofs.noravilump_arithmetic.Goals as goal

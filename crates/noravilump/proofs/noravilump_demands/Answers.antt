@@ -1,7 +1,6 @@
 -- `noravilump_demands` says the answer in numbers, and its place fits.
 use mathlib.Core.Path.{ap, ◌∙◌}
-use Rattle.paper.specs.declared.Answer.{Answer}
-use Rattle.paper.specs.Questions.{answer_numbers}
+use Rattle.paper.specs.Questions.{Answer, answer_numbers}
 use Rattle.numbers.specs.Numbers.{asked}
 use Rattle.numbers.proofs.Places.{demands_fits}
 use Rattle.noravilump.proofs.noravilump_demands.Goals as goal

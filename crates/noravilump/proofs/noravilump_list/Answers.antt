@@ -1,7 +1,6 @@
 -- `noravilump_list` says the list's answer in numbers, and leaves the buffer as the list does.
 use mathlib.Core.Path.{ap, ◌∙◌}
-use Rattle.paper.specs.declared.Listing.{Listing}
-use Rattle.paper.specs.Questions.{listing_numbers}
+use Rattle.paper.specs.Questions.{Listing, listing_numbers}
 use Rattle.numbers.specs.Numbers.{asked}
 use Rattle.numbers.proofs.Places.{list_fits}
 use Rattle.noravilump.proofs.noravilump_list.Goals as goal

@@ -1,19 +1,15 @@
 -- `list` answers as the definitions do, and leaves in the buffer what they say, for all bytes and every buffer.
 use mathlib.Core.Path.{sym, ap, ◌∙◌}
-use Rattle.refusals.specs.Passed.{listing_passed}
-use Rattle.questions.proofs.ByVerdict.{list_refused, ready, reserves, counted}
+use Rattle.std.specs.Result.{result_from_control_flow}
+use Rattle.questions.proofs.ByVerdict.{handed_on, list_refused, ready, reserves, counted}
 use Rattle.questions.proofs.list.Goals as goal
 
-pub returns-in_default : goal.returns-in_default
-unfolding listing_passed
-returns-in_default c =
-    let refusal = c.in_default.is in
-    let l = list_refused _ _ c.read-r.ensures refusal _ in
-    (c.passed_listing.ensures ∙ ap listing_passed refusal ∙ sym l.0, sym l.1)
+pub returns-in_err-read : goal.returns-in_err-read
+returns-in_err-read c =
+    let l = list_refused _ _ c.read.ensures (c.branch-read.ensures ∙ ap result_from_control_flow c.in_err-read.is) _ in
+    (handed_on _ c.from_residual.ensures.1 ∙ sym l.0, sym l.1)
 
 pub list-requires : goal.list-requires
 list-requires c =
-    (ready _ _ c.read-r.ensures c.in-Counts.is, reserves _ _ c.read-r.ensures c.in-Counts.is, counted _ _ c.read-r.ensures c.in-Counts.is)
-
-pub returns : goal.returns
-returns c = c.list.ensures
+    let accepted = c.branch-read.ensures ∙ ap result_from_control_flow c.in_ok-read.is in
+    (ready _ _ c.read.ensures accepted, reserves _ _ c.read.ensures accepted, counted _ _ c.read.ensures accepted)

@@ -171,7 +171,7 @@ returns-in-Ok-End c =
     let i = c.loop-at.invariant in
     let e = sym (head_is p) ∙ headed c.in-Ok-End.is c.in-Ok-End.field-0-is in
     record {
-      said = rw (part p) at c.ended-v.ensures ∙ end_verdict _ _ _ _ _ _ _ _ _ _ _ i (inside p) (counts _ _ _ _ _ _ _ _ _ _ _ i).1 e;
+      said = rw (part p) at c.ended.ensures ∙ end_verdict _ _ _ _ _ _ _ _ _ _ _ i (inside p) (counts _ _ _ _ _ _ _ _ _ _ _ i).1 e;
       held = end_holds _ _ _ _ _ _ _ _ _ _ _ i (inside p) e;
     }
 

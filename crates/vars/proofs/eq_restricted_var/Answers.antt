@@ -4,27 +4,24 @@ use Rattle.paper.specs.FreeAndRestricted.{by_bare}
 use Rattle.vars.proofs.EqualityLaws.{by_sides}
 use Rattle.vars.proofs.eq_restricted_var.Goals as goal
 
-pub returns-in-Name-right : goal.returns-in-Name-right
+pub returns-in-Some-Some : goal.returns-in-Some-Some
 unfolding by_bare
-returns-in-Name-right c =
-    sym (by_sides _ _ (sym c.bare_var-left.ensures ∙ c.in-Name.is) (sym c.bare_var-right.ensures ∙ c.in-Name-right.is))
+returns-in-Some-Some c = sym (by_sides _ _ (sym c.bare_var-left.ensures ∙ c.in-Some-Some.is-0) (sym c.bare_var-right.ensures ∙ c.in-Some-Some.is-1))
 
-pub returns-in-NoName-right : goal.returns-in-NoName-right
+pub returns-in-Some-None : goal.returns-in-Some-None
 unfolding by_bare
-returns-in-NoName-right c =
-    c.unless.ensures
-    ∙ sym (by_sides _ _ (sym c.bare_var-left.ensures ∙ c.in-Name.is) (sym c.bare_var-right.ensures ∙ c.in-NoName-right.is))
+returns-in-Some-None c =
+    c.unless.ensures ∙ sym (by_sides _ _ (sym c.bare_var-left.ensures ∙ c.in-Some-None.is-0) (sym c.bare_var-right.ensures ∙ c.in-Some-None.is-1))
 
-pub returns-in-Name-right-2 : goal.returns-in-Name-right-2
+pub returns-in-None-Some : goal.returns-in-None-Some
 unfolding by_bare
-returns-in-Name-right-2 c =
-    c.unless-in-Name-right-2.ensures
-    ∙ sym (by_sides _ _ (sym c.bare_var-left.ensures ∙ c.in-NoName.is) (sym c.bare_var-right.ensures ∙ c.in-Name-right-2.is))
+returns-in-None-Some c =
+    c.unless-in-None-Some.ensures
+    ∙ sym (by_sides _ _ (sym c.bare_var-left.ensures ∙ c.in-None-Some.is-0) (sym c.bare_var-right.ensures ∙ c.in-None-Some.is-1))
 
-pub returns-in-NoName-right-2 : goal.returns-in-NoName-right-2
+pub returns-in-None-None : goal.returns-in-None-None
 unfolding by_bare
-returns-in-NoName-right-2 c =
-    sym (by_sides _ _ (sym c.bare_var-left.ensures ∙ c.in-NoName.is) (sym c.bare_var-right.ensures ∙ c.in-NoName-right-2.is))
+returns-in-None-None c = sym (by_sides _ _ (sym c.bare_var-left.ensures ∙ c.in-None-None.is-0) (sym c.bare_var-right.ensures ∙ c.in-None-None.is-1))
 
 pub bare_var-left-requires : goal.bare_var-left-requires
 bare_var-left-requires c = c.requires.0

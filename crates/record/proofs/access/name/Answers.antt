@@ -3,23 +3,18 @@ use mathlib.Core.Path.{sym, ap, ◌∙◌}
 use lib.ListN.{take}
 use lib.Seq.{drop-length}
 use Rattle.paper.specs.TheList.{trimmed}
-use Rattle.record.specs.Arena.{said_by}
 use Rattle.record.proofs.StoredLaws.{name_refused, name_unknown, name_known}
 use Rattle.record.proofs.access.name.Goals as goal
 
 pub returns-in_default : goal.returns-in_default
 returns-in_default c =
     c.stretch.ensures ∙ ap (take 24) (drop-length c.args.bytes.now)
-    ∙ sym (name_refused _ _ _ (sym c.read.ensures.said ∙ ap said_by c.in_default.is))
+    ∙ sym (name_refused _ _ _ (sym c.read-reading.ensures.said ∙ c.in_default.is))
 
-pub returns-then-names-k : goal.returns-then-names-k
-returns-then-names-k c =
-    sym
-    (name_unknown _ _ _ _ (sym c.read.ensures.said ∙ ap said_by c.in-Ok.is)
-    c.if-names-k.true)
+pub returns-then-counts-k : goal.returns-then-counts-k
+returns-then-counts-k c = sym (name_unknown _ _ _ _ (sym c.read-reading.ensures.said ∙ c.in-Ok.is) c.if-counts-k.true)
 
 pub returns : goal.returns
 returns c =
     c.unpadded.ensures ∙ ap trimmed c.stretch-2.ensures
-    ∙ name_known _ _ _ _ (sym c.read.ensures.said ∙ ap said_by c.in-Ok.is)
-    c.if-names-k.false
+    ∙ name_known _ _ _ _ (sym c.read-reading.ensures.said ∙ c.in-Ok.is) c.if-counts-k.false
