@@ -1,7 +1,7 @@
 // Bytes and numbers of a slice at a place, for any place: past the end they are 0.
 #![tactic(auto)]
 
-ghost use Rattle.std.specs.Prelude.{◌≡◌, ◌+◌, ◌*◌, drop, get_or};
+ghost use Rattle.std.specs.Prelude.{◌≡◌, ◌+◌, ◌*◌, ◌<◌, drop, get_or};
 ghost use Rattle.octets.specs.Eights.{eight as eightᵈ};
 
 pub fn byte(b: &[u8], i: usize) -> u8
@@ -36,11 +36,14 @@ pub fn number(b: &[u8], i: usize) -> u16
 
 // The eight bytes at a place as one number, the first lowest. Where all are there, the compiler makes one load of it.
 pub fn eight(b: &[u8], i: usize) -> u64
+    requires { i < 0x10000 }
     ensures { result ≡ eightᵈ b.now i }
 {
-    let rest = tail(b, i);
-    match rest.first_chunk::<8>() {
-        Some(all) => u64::from_le_bytes(*all),
-        None => u64::from_le_bytes(std::array::from_fn(|k| byte(rest, k))),
+    match b.get(i..i + 8) {
+        Some(all) => u64::from_le_bytes(*all.first_chunk::<8>().unwrap()),
+        None => {
+            let rest = tail(b, i);
+            u64::from_le_bytes(std::array::from_fn(|k| byte(rest, k)))
+        }
     }
 }

@@ -1,18 +1,14 @@
 -- Two names walked together, eight bytes at a time: their order, and when they are the same; and a reserved word as a name, its padding written out. Assumes nothing.
 use mathlib.Core.Path.{◌≡◌, refl, sym, ap₂, ◌∙◌}
-use mathlib.Core.Bool.{Bool, true, false, ◌&&◌, and-false}
+use mathlib.Core.Bool.{Bool, true, false, ◌&&◌, ◌||◌, and-false, or-false}
 use mathlib.Core.List.{List, [], ◌∷◌, ◌++◌}
-use Prim.Native.Nat.{ℕ, zero, suc, ◌+◌}
+use Prim.Native.Nat.{ℕ, zero, suc, ◌+◌, ◌<◌}
 use native.Mathlib.Nat.{le_of_eq}
 use native.Mathlib.Omega.{arith}
+use borrow.Author.Tests.{eq-eqb, ne_eqb, le-ltb}
 use lib.Dec.{eqb, ltb, eqb-zero-suc, eqb-suc-zero, lit≤}
 use lib.ListN.{length, drop, drop_of_length-le, replicate}
 use lib.Pointwise.{pointwise}
-use Rattle.std.proofs.lemmas.Cmp.{same_from_slice_cmp_tested}
-use Rattle.std.proofs.lemmas.Bool.Decides.{nat_tests}
-use Rattle.std.specs.Prelude.{Some}
-use Rattle.std.specs.Ordering.{is_lt, is_some_and, nat_cmp}
-use Rattle.std.specs.Cmp.Lexicographic.{slice_partial_cmp}
 use Rattle.paper.specs.Record.{zeros, precedes}
 use Rattle.paper.specs.Scoping.{is_word}
 use Rattle.words.specs.Eights.{eight}
@@ -23,15 +19,20 @@ abbrev pub numbers : List ℕ → List ℕ
 numbers n = eight n 0 ∷ eight n 8 ∷ eight n 16 ∷ []
 
 module _ {a b : List ℕ} (m : Name a) (n : Name b) where
-  precedes_end : precedes (drop 24 a) (drop 24 b) ≡ false
+  pub precedes_end : precedes (drop 24 a) (drop 24 b) ≡ false
   unfolding precedes
   precedes_end = rw (drop_of_length-le a (le_of_eq m.size), drop_of_length-le b (le_of_eq n.size), precedes)
 
-  pub precedes_numbers : precedes (numbers a) (numbers b) ≡ precedes a b
-  unfolding precedes
-  precedes_numbers =
-      let step = eights precedes ltb (λ u v us vs. refl) higher_ltb m n in
-      sym (step 0 (lit≤ tt) ∙ rw (step 8 (lit≤ tt), step 16 (lit≤ tt), precedes_end) refl)
+  module _ (i : ℕ) (h : i + 7 < 24) where
+    step : precedes (drop i a) (drop i b) ≡ (ltb (eight a i) (eight b i) || (eqb (eight a i) (eight b i) && precedes (drop (i + 8) a) (drop (i + 8) b)))
+    unfolding precedes
+    step = eights precedes ltb (λ u v us vs. refl) higher_ltb m n i h
+
+    pub precedes_differ : (eight a i ≡ eight b i → ⊥) → precedes (drop i a) (drop i b) ≡ ltb (eight a i) (eight b i)
+    precedes_differ d = rw (step, ne_eqb (eight a i) (eight b i) d) (or-false _)
+
+    pub precedes_next : eight a i ≡ eight b i → precedes (drop i a) (drop i b) ≡ precedes (drop (i + 8) a) (drop (i + 8) b)
+    precedes_next e = step ∙ rw (le-ltb (eight a i) (eight b i) (le_of_eq (sym e)), eq-eqb (eight a i) (eight b i) e)
 
   same_end : pointwise eqb (drop 24 a) (drop 24 b) ≡ true
   same_end = rw (drop_of_length-le a (le_of_eq m.size), drop_of_length-le b (le_of_eq n.size)) refl
@@ -40,11 +41,6 @@ module _ {a b : List ℕ} (m : Name a) (n : Name b) where
   same_numbers =
       let step = eights (pointwise eqb) (λ u v. false) (λ u v us vs. refl) (λ r s u v k l. sym (and-false (eqb r s))) m n in
       sym (step 0 (lit≤ tt) ∙ rw (step 8 (lit≤ tt), step 16 (lit≤ tt), same_end) refl)
-
--- `<` of two lists of numbers is the definitions' order
-pub in_order : (xs ys : List ℕ) (r : Bool) → r ≡ is_some_and is_lt (slice_partial_cmp (λ x y. Some (nat_cmp x y)) xs ys) → r ≡ precedes xs ys
-unfolding precedes
-in_order = same_from_slice_cmp_tested nat_cmp is_lt precedes refl (λ _ _. refl) (λ _ _. refl) (λ x y xs ys o h. grind (arith, nat_tests))
 
 zero_first : (y : ℕ) → eqb 0 y ≡ eqb y 0
 zero_first zero = refl
