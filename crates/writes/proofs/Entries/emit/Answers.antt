@@ -13,10 +13,10 @@ use Rattle.paper.specs.Places.{for_names, findings}
 use Rattle.names.specs.declared.Names.{Names}
 use Rattle.names.specs.Words.{mem}
 use Rattle.names.proofs.LeastLaws.{some_least}
-use Rattle.writes.proofs.WriteLaws.{wrote_none, wrote_then, wrote_is, wrote_length, room_is, room_first, room_rest}
+use Rattle.writes.proofs.WriteLaws.{added_none, added_then, added_is, room_is, room_first, room_rest}
 use Rattle.writes.proofs.NameLaws.{made, no_names, next_name}
-use Rattle.writes.proofs.emit.Goals as goal
-use Rattle.writes.proofs.emit.Goals.{In-loop-n, After-without-left}
+use Rattle.writes.proofs.Entries.emit.Goals as goal
+use Rattle.writes.proofs.Entries.emit.Goals.{In-loop-n, After-without-left}
 
 abbrev entries_of : ℕ → NodeNo → Names → List Finding
 entries_of rule n s = findings (for_names rule n (mem s))
@@ -32,14 +32,14 @@ step c rule n =
     next_name rule n _ ((sym c.is_empty.ensures ∙ c.loop-n-test.true)) c.least-x.ensures c.without-left.ensures
 
 pub loop-n-init : goal.loop-n-init
-loop-n-init c = ([], refl, wrote_none)
+loop-n-init c = ([], refl, added_none)
 
-pub put-p-requires : goal.put-p-requires
-put-p-requires c =
+pub put-requires : goal.put-requires
+put-requires c =
     let i = c.loop-n.invariant in
-    let t = i.2.total in
+    let t = i.2.wrote.total in
     let room = room_is i.1 c.requires in
-    room_first _ _ (room_is (next_name _ _ _ (some_left (goal.at.put-p-requires c).In-loop-n) c.least-x.ensures refl) (room_rest i.0 _ i.2 (omega arith) room))
+    room_first _ _ (room_is (next_name _ _ _ (some_left (goal.at.put-requires c).In-loop-n) c.least-x.ensures refl) (room_rest i.0 _ i.2.wrote (omega arith) room))
 
 pub without-left-requires : goal.without-left-requires
 without-left-requires c =
@@ -55,14 +55,11 @@ loop-n-preserved c =
     let i = c.loop-n.invariant in (
       i.0 ++ (made _ _ _ ∷ []),
       i.1 ∙ ap (λ (l : List Finding). i.0 ++ l) (step (goal.at.loop-n-preserved c).After-without-left _ _) ∙ sym (append_assoc i.0 (_ ∷ []) _),
-      wrote_then i.2 c.put-p.ensures,
+      added_then i.2 c.put.ensures,
     )
 
 pub returns : goal.returns
 returns c =
     let i = c.loop-n.invariant in
     let all = i.1 ∙ ap (λ (l : List Finding). i.0 ++ l) (no_names _ _ _ (sym c.is_empty.ensures ∙ c.loop-n-test.false)) ∙ append-nil i.0 in
-    wrote_is all i.2
-
-pub shape_of-out : goal.shape_of-out
-shape_of-out c = wrote_length (returns c)
+    added_is all i.2

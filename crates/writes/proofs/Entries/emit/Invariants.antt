@@ -8,14 +8,14 @@ use Rattle.paper.specs.declared.Finding.{Finding}
 use Rattle.paper.specs.Places.{for_names, findings}
 use Rattle.names.specs.declared.Names.{Names}
 use Rattle.names.specs.Words.{mem}
-use Rattle.writes.specs.Written.{Wrote}
-use Rattle.writes.proofs.emit.Given as goal
+use Rattle.writes.specs.Walked.{Added}
+use Rattle.writes.proofs.Entries.emit.Given as goal
 
 abbrev entries_of : ℕ → NodeNo → Names → List Finding
 entries_of rule n s = findings (for_names rule n (mem s))
 
 abbrev pub invariant-loop-n : goal.invariant-loop-n
-invariant-loop-n l = (done : List Finding) × (entries_of l.rule l.n l.fn.s ≡ done ++ entries_of l.rule l.n l.left) × Wrote done l.at l.p l.initial.out l.out
+invariant-loop-n l = (done : List Finding) × (entries_of l.rule l.n l.fn.s ≡ done ++ entries_of l.rule l.n l.left) × Added done l.initial.self l.self
 
 abbrev pub decreases-loop-n : goal.decreases-loop-n
 decreases-loop-n l = length (entries_of l.rule l.n l.left)
