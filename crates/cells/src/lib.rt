@@ -6,17 +6,17 @@ ghost use Rattle.paper.specs.Scoping.{cell_of, cells};
 ghost use Rattle.names.specs.Words.{mem};
 ghost use Rattle.record.specs.Stored.{Has};
 ghost use Rattle.trees.specs.Trees.{binders_of};
-ghost use Rattle.writes.specs.Written.{Room, Wrote};
+ghost use Rattle.writes.specs.Walked.{HasRoom, Added};
 
 use names::Names;
 use paper::{Finding, NodeNo, Slot};
 use slots::{Binder, binder_at};
-use writes::put;
+use writes::Entries;
 
 // A rule's entry at a cell, if the cell binds one of some names.
-fn emit_cell(n: NodeNo, slot: Slot, rule: u8, s: Names, out: &mut [u32], at: usize) -> usize
-    requires { Room (findings (at_cells rule (mem s) (cell_of n slot))) at }
-    ensures { Wrote (findings (at_cells rule (mem s) (cell_of n slot))) at result out.old out.new }
+fn emit_cell(n: NodeNo, slot: Slot, rule: u8, s: Names, entries: &mut Entries)
+    requires { HasRoom (findings (at_cells rule (mem s) (cell_of n slot))) entries.old }
+    ensures { Added (findings (at_cells rule (mem s) (cell_of n slot))) entries.old entries.new }
 {
     match slot {
         Slot::Name(x) => {
@@ -26,36 +26,28 @@ fn emit_cell(n: NodeNo, slot: Slot, rule: u8, s: Names, out: &mut [u32], at: usi
                     node: n,
                     name: Some(x),
                 };
-                return put(out, at, f);
+                entries.put(f);
             }
-            at
         }
-        _ => at,
+        _ => {}
     }
 }
 
 // A rule's entry at each cell that binds one of some names.
-pub fn emit_cells(
-    columns: &[u64; 513],
-    i: NodeNo,
-    rule: u8,
-    s: Names,
-    out: &mut [u32],
-    at: usize,
-) -> usize
+pub fn emit_cells(columns: &[u64; 513], i: NodeNo, rule: u8, s: Names, entries: &mut Entries)
     requires has { Has columns.now i.0 }
-    requires room { Room (findings (at_cells rule (mem s) (cells (binders_of columns.now i.0)))) at }
-    ensures { Wrote (findings (at_cells rule (mem s) (cells (binders_of columns.now i.0)))) at result out.old out.new }
+    requires room { HasRoom (findings (at_cells rule (mem s) (cells (binders_of columns.now i.0)))) entries.old }
+    ensures { Added (findings (at_cells rule (mem s) (cells (binders_of columns.now i.0)))) entries.old entries.new }
 {
     // Most often no name is wanted, and then no cell is looked at.
     if s.is_empty() {
-        return at;
+        return;
     }
     match binder_at(columns, i) {
         Binder::Cell(slot, rest) => {
-            let p = emit_cell(i, slot, rule, s, out, at);
-            emit_cells(columns, rest, rule, s, out, p)
+            emit_cell(i, slot, rule, s, entries);
+            emit_cells(columns, rest, rule, s, entries);
         }
-        Binder::End => at,
+        Binder::End => {}
     }
 }

@@ -7,83 +7,69 @@ ghost use Rattle.names.specs.Words.{mem};
 ghost use Rattle.record.specs.Stored.{Has};
 ghost use Rattle.known.specs.Rows.{Noted};
 ghost use Rattle.trees.specs.Trees.{tree_of, is_condition, is_term, condition_of, term_of};
-ghost use Rattle.writes.specs.Written.{Room, Wrote};
+ghost use Rattle.writes.specs.Walked.{HasRoom, Added};
 ghost use Rattle.owed.specs.Demanded.{demanded};
 
 use names::Names;
 use owed::{asked_first, check_own_demands, tied_first, tied_second};
 use paper::NodeNo;
-use rows::read::is_met;
+use rows::read::NotedNodes;
 use slots::without_binders;
 use views::{Below, Operand, below_at, operand_at};
+use writes::Entries;
 
 // The entries of a condition and of what lies below it. Where all that is needed is tied, nothing is entered.
 #[cycle(check_chain_descend_nested_chains)]
-pub fn check_chain(
-    columns: &[u64; 513],
-    rows: &[[u64; 7]],
-    i: NodeNo,
-    tied: Names,
-    asked: bool,
-    out: &mut [u32],
-    at: usize,
-) -> usize
-    requires has { Has columns.now i.0 × Noted columns.now rows.now × (is_condition (tree_of columns.now i.0) ≡ true) }
-    requires room { Room (demanded asked (condition (condition_of columns.now i.0)) (mem tied)) at }
-    ensures { Wrote (demanded asked (condition (condition_of columns.now i.0)) (mem tied)) at result out.old out.new }
+pub fn check_chain(nodes: &NotedNodes, i: NodeNo, tied: Names, asked: bool, entries: &mut Entries)
+    requires has { Has nodes.now.columns.now i.0 × (is_condition (tree_of nodes.now.columns.now i.0) ≡ true) }
+    requires room { HasRoom (demanded asked (condition (condition_of nodes.now.columns.now i.0)) (mem tied)) entries.old }
+    ensures { Added (demanded asked (condition (condition_of nodes.now.columns.now i.0)) (mem tied)) entries.old entries.new }
 {
-    if is_met(columns, rows, i, tied) {
-        return at;
+    if nodes.is_met(i, tied) {
+        return;
     }
-    let p = check_own_demands(columns, rows, i, tied, asked, out, at);
-    let below = below_at(columns, i);
+    check_own_demands(nodes, i, tied, asked, entries);
+    let below = below_at(nodes.columns, i);
     match below {
-        Below::Nothing => p,
+        Below::Nothing => {}
         Below::Condition(b) => {
-            let inner = tied_first(columns, rows, i, tied);
-            let further = asked_first(columns, i);
-            check_chain(columns, rows, b, inner, further, out, p)
+            let inner = tied_first(nodes, i, tied);
+            let further = asked_first(nodes.columns, i);
+            check_chain(nodes, b, inner, further, entries);
         }
         Below::Conditions(l, r) => {
-            let first = tied_first(columns, rows, i, tied);
-            let second = tied_second(columns, rows, i, tied);
-            let q = check_chain(columns, rows, l, first, true, out, p);
-            check_chain(columns, rows, r, second, true, out, q)
+            let first = tied_first(nodes, i, tied);
+            let second = tied_second(nodes, i, tied);
+            check_chain(nodes, l, first, true, entries);
+            check_chain(nodes, r, second, true, entries);
         }
         Below::Operands(l, r) => {
-            let q = descend_nested_chains(columns, rows, l, tied, out, p);
-            descend_nested_chains(columns, rows, r, tied, out, q)
+            descend_nested_chains(nodes, l, tied, entries);
+            descend_nested_chains(nodes, r, tied, entries);
         }
     }
 }
 
 // The same of an operand: through arithmetic to the bodies of aggregates.
 #[cycle(check_chain_descend_nested_chains)]
-pub fn descend_nested_chains(
-    columns: &[u64; 513],
-    rows: &[[u64; 7]],
-    i: NodeNo,
-    tied: Names,
-    out: &mut [u32],
-    at: usize,
-) -> usize
-    requires has { Has columns.now i.0 × Noted columns.now rows.now × (is_term (tree_of columns.now i.0) ≡ true) }
-    requires room { Room (demanded true (operand (term_of columns.now i.0)) (mem tied)) at }
-    ensures { Wrote (demanded true (operand (term_of columns.now i.0)) (mem tied)) at result out.old out.new }
+pub fn descend_nested_chains(nodes: &NotedNodes, i: NodeNo, tied: Names, entries: &mut Entries)
+    requires has { Has nodes.now.columns.now i.0 × (is_term (tree_of nodes.now.columns.now i.0) ≡ true) }
+    requires room { HasRoom (demanded true (operand (term_of nodes.now.columns.now i.0)) (mem tied)) entries.old }
+    ensures { Added (demanded true (operand (term_of nodes.now.columns.now i.0)) (mem tied)) entries.old entries.new }
 {
-    if is_met(columns, rows, i, tied) {
-        return at;
+    if nodes.is_met(i, tied) {
+        return;
     }
-    let operand = operand_at(columns, i);
+    let operand = operand_at(nodes.columns, i);
     match operand {
         Operand::Arith(l, r) => {
-            let p = descend_nested_chains(columns, rows, l, tied, out, at);
-            descend_nested_chains(columns, rows, r, tied, out, p)
+            descend_nested_chains(nodes, l, tied, entries);
+            descend_nested_chains(nodes, r, tied, entries);
         }
         Operand::Aggregate(binders, body) => {
-            let inner = without_binders(columns, tied, binders);
-            check_chain(columns, rows, body, inner, true, out, at)
+            let inner = without_binders(nodes.columns, tied, binders);
+            check_chain(nodes, body, inner, true, entries);
         }
-        _ => at,
+        _ => {}
     }
 }

@@ -1,7 +1,7 @@
 // The rows, and over them one part of the list.
 #![tactic(auto)]
 
-ghost use Rattle.std.specs.Prelude.{◌<◌, length};
+ghost use Rattle.std.specs.Prelude.{◌<◌, ◌≤◌};
 ghost use Rattle.trees.specs.Trees.{condition_of};
 ghost use Rattle.writes.specs.Written.{Room, Wrote};
 ghost use Rattle.listing.specs.Parts.{Last, part_of};
@@ -9,23 +9,33 @@ ghost use Rattle.listing.specs.Parts.{Last, part_of};
 use facts::collect_facts;
 use listing::{Check, is_quiet, write_part};
 use paper::NodeNo;
+use rows::read::NotedNodes;
+use writes::Entries;
 
-fn part_noted(
+// The entries that a check asks for, where so many rows are enough.
+fn part_noted<const ROWS: usize>(
     columns: &[u64; 513],
     i: NodeNo,
     check: Check,
-    rows: &mut [[u64; 7]],
     out: &mut [u32],
 ) -> usize
-    requires last { Last columns.now i.0 × (i.0 < length rows.old) }
+    requires last { Last columns.now i.0 × (i.0 < ROWS) }
+    requires few { ROWS ≤ 512 }
     requires room { Room (part_of check i (condition_of columns.now i.0)) 0 }
     ensures { Wrote (part_of check i (condition_of columns.now i.0)) 0 result out.old out.new }
 {
-    collect_facts(columns, rows, i);
-    if is_quiet(columns, rows, i, check) {
+    let mut rows = [[0u64; 7]; ROWS];
+    collect_facts(columns, &mut rows, i);
+    let nodes = NotedNodes {
+        columns,
+        rows: &rows,
+    };
+    if is_quiet(&nodes, i, check) {
         return 0;
     }
-    write_part(columns, rows, i, check, out)
+    let mut entries = Entries { out, count: 0 };
+    write_part(&nodes, i, check, &mut entries);
+    entries.count
 }
 
 // The entries that a check asks for. Few nodes take few rows, since rows have to be cleared.
@@ -34,11 +44,8 @@ pub fn part_entries(columns: &[u64; 513], i: NodeNo, check: Check, out: &mut [u3
     requires room { Room (part_of check i (condition_of columns.now i.0)) 0 }
     ensures { Wrote (part_of check i (condition_of columns.now i.0)) 0 result out.old out.new }
 {
-    let blank = [0u64; 7];
     if i.0 < 32 {
-        let mut few = [blank; 32];
-        return part_noted(columns, i, check, &mut few, out);
+        return part_noted::<32>(columns, i, check, out);
     }
-    let mut all = [blank; 512];
-    part_noted(columns, i, check, &mut all, out)
+    part_noted::<512>(columns, i, check, out)
 }

@@ -88,22 +88,19 @@ all_noted {columns} {i = i} form g last l =
     record { fits = omega arith; row = λ k h t. g.below k (every_reached columns form i last k h) t }
 
 -- what a call on a child that is a condition asks for, where the caller's node is t
-pub under_body : {P : Type 0} {columns : List ℕ} {i : ℕ} {k t : ℕ} → Child columns i condition k → i ≡ t → P
-    → (k < t) × (Has columns k × P × (is_condition (tree_of columns k) ≡ true))
-under_body c e n = let d = down c e in (d.0, (d.1, n, a_body _ c.fits))
+pub under_body : {columns : List ℕ} {i : ℕ} {k t : ℕ} → Child columns i condition k → i ≡ t → (k < t) × (Has columns k × (is_condition (tree_of columns k) ≡ true))
+under_body c e = let d = down c e in (d.0, (d.1, a_body _ c.fits))
 
 -- and of a term
-pub under_term : {P : Type 0} {columns : List ℕ} {i : ℕ} {k t : ℕ} → Child columns i term k → i ≡ t → P
-    → (k < t) × (Has columns k × P × (is_term (tree_of columns k) ≡ true))
-under_term c e n = let d = down c e in (d.0, (d.1, n, a_term _ c.fits))
+pub under_term : {columns : List ℕ} {i : ℕ} {k t : ℕ} → Child columns i term k → i ≡ t → (k < t) × (Has columns k × (is_term (tree_of columns k) ≡ true))
+under_term c e = let d = down c e in (d.0, (d.1, a_term _ c.fits))
 
 -- what a look at a child's row asks for
-module _ {P : Type 0} {columns : List ℕ} {i k : ℕ} where
-  pub body_row : Child columns i condition k → P → (k < length (held columns)) × P × (is_condition (tree_of columns k) ≡ true)
-  body_row c n = (c.has.1, n, a_body _ c.fits)
+pub body_row : {columns : List ℕ} {i k : ℕ} → Child columns i condition k → (k < length (held columns)) × (is_condition (tree_of columns k) ≡ true)
+body_row c = (c.has.1, a_body _ c.fits)
 
-  pub term_row : Child columns i term k → P → (k < length (held columns)) × P × (is_term (tree_of columns k) ≡ true)
-  term_row c n = (c.has.1, n, a_term _ c.fits)
+pub term_row : {columns : List ℕ} {i k : ℕ} → Child columns i term k → (k < length (held columns)) × (is_term (tree_of columns k) ≡ true)
+term_row c = (c.has.1, a_term _ c.fits)
 
 pub both_true : (a b : Bool) → (a && b) ≡ true → (a ≡ true) × (b ≡ true)
 both_true true b e = (refl, e)

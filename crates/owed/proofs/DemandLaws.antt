@@ -43,9 +43,10 @@ use Rattle.views.specs.contracts.Operand.{the_type as operand_type}
 use Rattle.views.specs.contracts.Owing.{the_type as owing_type}
 use Rattle.views.proofs.EnteredLaws.{entered_cases}
 use Rattle.views.proofs.SeenLaws.{OwingArm, owing_told}
-use Rattle.writes.specs.Written.{Room, Wrote}
-use native.Mathlib.Nat.{le_refl}
-use Rattle.writes.proofs.WriteLaws.{wrote_then, wrote_is, room_is, room_first, room_rest}
+use Rattle.writes.specs.declared.Entries.{Entries}
+use Rattle.writes.specs.Written.{Room}
+use Rattle.writes.specs.Walked.{HasRoom, Added}
+use Rattle.writes.proofs.WriteLaws.{added_then, added_is, room_is, room_first, room_after}
 use Rattle.owed.specs.Demanded.{place_below, FirstAsked, demanded, owed, owed_compared, owed_equated}
 
 -- ---- from a place on
@@ -70,16 +71,14 @@ own_first false c ties = found_at demand_below demand_broken extent_pos demand_s
 
 -- the same of what is written, and of the room for it
 module _ (asked : Bool) (c : Condition) (ties : Set) where
-  pub wrote_own_first : {at m r : ℕ} {x y z : List ℕ} → Wrote (pick asked (owed c ties) []) at m x y → Wrote (below_it c ties) m r y z
-      → Wrote (demanded asked (condition c) ties) at r x z
-  wrote_own_first own rest = wrote_is (own_first asked c ties) (wrote_then own rest)
+  pub added_own_first : {x y z : Entries} → Added (pick asked (owed c ties) []) x y → Added (below_it c ties) y z → Added (demanded asked (condition c) ties) x z
+  added_own_first own rest = added_is (own_first asked c ties) (added_then own rest)
 
   pub room_own : {at : ℕ} → Room (demanded asked (condition c) ties) at → Room (pick asked (owed c ties) []) at
   room_own room = room_first _ _ (room_is (own_first asked c ties) room)
 
-  pub room_below : {at m : ℕ} {x y : List ℕ} → Wrote (pick asked (owed c ties) []) at m x y → Room (demanded asked (condition c) ties) at
-      → Room (below_it c ties) m
-  room_below own room = room_rest _ _ own (le_refl _) (room_is (own_first asked c ties) room)
+  pub room_below : {x y : Entries} → Added (pick asked (owed c ties) []) x y → HasRoom (demanded asked (condition c) ties) x → HasRoom (below_it c ties) y
+  room_below own room = room_after _ _ own (room_is (own_first asked c ties) room)
 
 -- an operand owes nothing itself
 at_operand : (t : Term) (ties : Set) → demanded true (operand t) ties ≡ walked (demand_below (asked_at (operand t) ties))

@@ -9,47 +9,33 @@ ghost use Rattle.names.specs.Words.{mem};
 ghost use Rattle.record.specs.Stored.{Has};
 ghost use Rattle.known.specs.Rows.{Noted};
 ghost use Rattle.trees.specs.Trees.{condition_of};
-ghost use Rattle.writes.specs.Written.{Room, Wrote};
+ghost use Rattle.writes.specs.Walked.{HasRoom, Added};
 ghost use Rattle.owed.specs.Demanded.{place_below, FirstAsked, owed, owed_compared, owed_equated};
 
 use names::Names;
 use paper::{Equality, NodeNo};
-use rows::read::{collect_free, collect_range_restricted, collect_term_var};
+use rows::read::NotedNodes;
 use slots::without_slot;
 use vars::eq_restricted_var;
 use views::{Owing, owing_at};
-use writes::emit;
+use writes::Entries;
 
 // A rule's entry at a node for each name that must be tied and is not.
-fn reject_unmet_var(
-    n: NodeNo,
-    rule: u8,
-    needs: Names,
-    tied: Names,
-    out: &mut [u32],
-    at: usize,
-) -> usize
-    requires { Room (findings (for_names rule n (mem needs ∖ mem tied))) at }
-    ensures { Wrote (findings (for_names rule n (mem needs ∖ mem tied))) at result out.old out.new }
+fn reject_unmet_var(n: NodeNo, rule: u8, needs: Names, tied: Names, entries: &mut Entries)
+    requires { HasRoom (findings (for_names rule n (mem needs ∖ mem tied))) entries.old }
+    ensures { Added (findings (for_names rule n (mem needs ∖ mem tied))) entries.old entries.new }
 {
     let unmet = needs - tied;
-    emit(out, at, rule, n, unmet)
+    entries.emit(rule, n, unmet);
 }
 
 // The entries of a comparison that ties nothing: 31 for the free names of both sides.
-fn reject_unmet_sides(
-    n: NodeNo,
-    left: Names,
-    right: Names,
-    tied: Names,
-    out: &mut [u32],
-    at: usize,
-) -> usize
-    requires { Room (owed_compared n (mem left) (mem right) (mem tied)) at }
-    ensures { Wrote (owed_compared n (mem left) (mem right) (mem tied)) at result out.old out.new }
+fn reject_unmet_sides(n: NodeNo, left: Names, right: Names, tied: Names, entries: &mut Entries)
+    requires { HasRoom (owed_compared n (mem left) (mem right) (mem tied)) entries.old }
+    ensures { Added (owed_compared n (mem left) (mem right) (mem tied)) entries.old entries.new }
 {
     let both = left | right;
-    reject_unmet_var(n, 31, both, tied, out, at)
+    reject_unmet_var(n, 31, both, tied, entries);
 }
 
 // The entries of an equality itself, from the free names of its sides: 30 for the value that ties a variable.
@@ -59,87 +45,74 @@ fn check_equality_demands(
     left: Names,
     right: Names,
     tied: Names,
-    out: &mut [u32],
-    at: usize,
-) -> usize
-    requires { Room (owed_equated n side (mem left) (mem right) (mem tied)) at }
-    ensures { Wrote (owed_equated n side (mem left) (mem right) (mem tied)) at result out.old out.new }
+    entries: &mut Entries,
+)
+    requires { HasRoom (owed_equated n side (mem left) (mem right) (mem tied)) entries.old }
+    ensures { Added (owed_equated n side (mem left) (mem right) (mem tied)) entries.old entries.new }
 {
     match side {
-        Equality::Left(_) => reject_unmet_var(n, 30, right, tied, out, at),
-        Equality::Right(_) => reject_unmet_var(n, 30, left, tied, out, at),
-        Equality::Nothing(_) => reject_unmet_sides(n, left, right, tied, out, at),
+        Equality::Left(_) => reject_unmet_var(n, 30, right, tied, entries),
+        Equality::Right(_) => reject_unmet_var(n, 30, left, tied, entries),
+        Equality::Nothing(_) => reject_unmet_sides(n, left, right, tied, entries),
     }
 }
 
 // The entries of a condition itself: 30 to 32 for the names that are not tied.
-fn check_conjunct_demands(
-    columns: &[u64; 513],
-    rows: &[[u64; 7]],
-    i: NodeNo,
-    tied: Names,
-    out: &mut [u32],
-    at: usize,
-) -> usize
-    requires has { Has columns.now i.0 × Noted columns.now rows.now }
-    requires room { Room (owed (condition_of columns.now i.0) (mem tied)) at }
-    ensures { Wrote (owed (condition_of columns.now i.0) (mem tied)) at result out.old out.new }
+fn check_conjunct_demands(nodes: &NotedNodes, i: NodeNo, tied: Names, entries: &mut Entries)
+    requires has { Has nodes.now.columns.now i.0 }
+    requires room { HasRoom (owed (condition_of nodes.now.columns.now i.0) (mem tied)) entries.old }
+    ensures { Added (owed (condition_of nodes.now.columns.now i.0) (mem tied)) entries.old entries.new }
 {
-    match owing_at(columns, i) {
+    match owing_at(nodes.columns, i) {
         Owing::Comparison(op, l, r) => {
+            let left = nodes.collect_term_var(l);
+            let right = nodes.collect_term_var(r);
             if op == 0 {
-                let side = eq_restricted_var(columns, l, r);
-                let left = collect_term_var(columns, rows, l);
-                let right = collect_term_var(columns, rows, r);
-                check_equality_demands(i, side, left, right, tied, out, at)
+                let side = eq_restricted_var(nodes.columns, l, r);
+                check_equality_demands(i, side, left, right, tied, entries);
             } else {
-                let left = collect_term_var(columns, rows, l);
-                let right = collect_term_var(columns, rows, r);
-                reject_unmet_sides(i, left, right, tied, out, at)
+                reject_unmet_sides(i, left, right, tied, entries);
             }
         }
         Owing::Not(b) => {
-            let needs = collect_free(columns, rows, b);
-            reject_unmet_var(i, 31, needs, tied, out, at)
+            let needs = nodes.collect_free(b);
+            reject_unmet_var(i, 31, needs, tied, entries);
         }
         Owing::Since(l, r) => {
-            let needs = collect_free(columns, rows, l);
-            let anchored = collect_range_restricted(columns, rows, r);
+            let needs = nodes.collect_free(l);
+            let anchored = nodes.collect_range_restricted(r);
             let known = tied | anchored;
-            reject_unmet_var(i, 32, needs, known, out, at)
+            reject_unmet_var(i, 32, needs, known, entries);
         }
-        _ => at,
+        _ => {}
     }
 }
 
 // The same, if the condition is asked.
 pub fn check_own_demands(
-    columns: &[u64; 513],
-    rows: &[[u64; 7]],
+    nodes: &NotedNodes,
     i: NodeNo,
     tied: Names,
     asked: bool,
-    out: &mut [u32],
-    at: usize,
-) -> usize
-    requires has { Has columns.now i.0 × Noted columns.now rows.now }
-    requires room { Room (pick asked (owed (condition_of columns.now i.0) (mem tied)) []) at }
-    ensures { Wrote (pick asked (owed (condition_of columns.now i.0) (mem tied)) []) at result out.old out.new }
+    entries: &mut Entries,
+)
+    requires has { Has nodes.now.columns.now i.0 }
+    requires room { HasRoom (pick asked (owed (condition_of nodes.now.columns.now i.0) (mem tied)) []) entries.old }
+    ensures { Added (pick asked (owed (condition_of nodes.now.columns.now i.0) (mem tied)) []) entries.old entries.new }
 {
     if asked {
-        return check_conjunct_demands(columns, rows, i, tied, out, at);
+        check_conjunct_demands(nodes, i, tied, entries);
     }
-    at
 }
 
 // What is tied at the first part of a condition: on the left of Since also what the right restricts, below a binder not its name.
-pub fn tied_first(columns: &[u64; 513], rows: &[[u64; 7]], i: NodeNo, tied: Names) -> Names
-    requires { Has columns.now i.0 × Noted columns.now rows.now }
-    ensures { mem result ≡ (place_below 0 (condition_of columns.now i.0) (mem tied)).names }
+pub fn tied_first(nodes: &NotedNodes, i: NodeNo, tied: Names) -> Names
+    requires { Has nodes.now.columns.now i.0 }
+    ensures { mem result ≡ (place_below 0 (condition_of nodes.now.columns.now i.0) (mem tied)).names }
 {
-    match owing_at(columns, i) {
+    match owing_at(nodes.columns, i) {
         Owing::Since(_, r) => {
-            let given = collect_range_restricted(columns, rows, r);
+            let given = nodes.collect_range_restricted(r);
             tied | given
         }
         Owing::Exists(slot) => without_slot(tied, slot),
@@ -148,13 +121,13 @@ pub fn tied_first(columns: &[u64; 513], rows: &[[u64; 7]], i: NodeNo, tied: Name
 }
 
 // What is tied at the second part: on the right of And also what the left restricts.
-pub fn tied_second(columns: &[u64; 513], rows: &[[u64; 7]], i: NodeNo, tied: Names) -> Names
-    requires { Has columns.now i.0 × Noted columns.now rows.now }
-    ensures { mem result ≡ (place_below 1 (condition_of columns.now i.0) (mem tied)).names }
+pub fn tied_second(nodes: &NotedNodes, i: NodeNo, tied: Names) -> Names
+    requires { Has nodes.now.columns.now i.0 }
+    ensures { mem result ≡ (place_below 1 (condition_of nodes.now.columns.now i.0) (mem tied)).names }
 {
-    match owing_at(columns, i) {
+    match owing_at(nodes.columns, i) {
         Owing::And(l) => {
-            let given = collect_range_restricted(columns, rows, l);
+            let given = nodes.collect_range_restricted(l);
             tied | given
         }
         _ => tied,

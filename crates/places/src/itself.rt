@@ -4,34 +4,29 @@ ghost use Rattle.names.specs.Words.{mem};
 ghost use Rattle.record.specs.Stored.{Has};
 ghost use Rattle.known.specs.Rows.{Noted};
 ghost use Rattle.trees.specs.Trees.{condition_of};
-ghost use Rattle.writes.specs.Written.{Room, Wrote};
+ghost use Rattle.writes.specs.Walked.{HasRoom, Added};
 ghost use Rattle.places.specs.Itself.{at_itself, scope_first};
 
 use crate::binders::{check_exists_binder, reject_reserved_binder};
 use crate::nested::reject_nested_agg;
 use names::Names;
 use paper::NodeNo;
+use rows::read::NotedNodes;
 use slots::with_slot;
 use views::{Itself, itself_at};
+use writes::Entries;
 
 // 22 and 23 at an exists, 22 at a tp, 20 and 21 in the arguments of a predicate.
-pub fn check_itself(
-    columns: &[u64; 513],
-    rows: &[[u64; 7]],
-    i: NodeNo,
-    words: Names,
-    out: &mut [u32],
-    at: usize,
-) -> usize
-    requires has { Has columns.now i.0 × Noted columns.now rows.now }
-    requires room { Room (at_itself (mem words) (condition_of columns.now i.0)) at }
-    ensures { Wrote (at_itself (mem words) (condition_of columns.now i.0)) at result out.old out.new }
+pub fn check_itself(nodes: &NotedNodes, i: NodeNo, words: Names, entries: &mut Entries)
+    requires has { Has nodes.now.columns.now i.0 }
+    requires room { HasRoom (at_itself (mem words) (condition_of nodes.now.columns.now i.0)) entries.old }
+    ensures { Added (at_itself (mem words) (condition_of nodes.now.columns.now i.0)) entries.old entries.new }
 {
-    match itself_at(columns, i) {
-        Itself::Exists(slot, b) => check_exists_binder(columns, rows, i, slot, b, words, out, at),
-        Itself::Predicate(arguments) => reject_nested_agg(columns, arguments, out, at),
-        Itself::Tp(slot) => reject_reserved_binder(i, slot, words, out, at),
-        _ => at,
+    match itself_at(nodes.columns, i) {
+        Itself::Exists(slot, b) => check_exists_binder(nodes, i, slot, b, words, entries),
+        Itself::Predicate(arguments) => reject_nested_agg(nodes.columns, arguments, entries),
+        Itself::Tp(slot) => reject_reserved_binder(i, slot, words, entries),
+        _ => {}
     }
 }
 

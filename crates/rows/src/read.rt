@@ -13,65 +13,69 @@ use known::{BINDS, BROKEN, HARD, SIGIL, UNCLOSED};
 use names::Names;
 use paper::NodeNo;
 
-pub fn collect_free(columns: &[u64; 513], rows: &[[u64; 7]], i: NodeNo) -> Names
-    requires { (i.0 < length (held columns.now)) × Noted columns.now rows.now × (is_condition (tree_of columns.now i.0) ≡ true) }
-    ensures { mem result ≡ free (condition_of columns.now i.0) }
-{
-    let f = facts_at(rows, i);
-    f.free
+// The nodes of a record, and a row for each of what is known of it.
+#[derive(Clone, Copy)]
+pub struct NotedNodes<'a> {
+    pub columns: &'a [u64; 513],
+    pub rows: &'a [[u64; 7]],
+    pub ghost noted: { Noted columns.now rows.now },
 }
 
-pub fn collect_term_var(columns: &[u64; 513], rows: &[[u64; 7]], i: NodeNo) -> Names
-    requires { (i.0 < length (held columns.now)) × Noted columns.now rows.now × (is_term (tree_of columns.now i.0) ≡ true) }
-    ensures { mem result ≡ term_free (term_of columns.now i.0) }
-{
-    let f = facts_at(rows, i);
-    f.free
-}
+impl NotedNodes<'_> {
+    pub fn collect_free(&self, i: NodeNo) -> Names
+        requires { (i.0 < length (held self.now.columns.now)) × (is_condition (tree_of self.now.columns.now i.0) ≡ true) }
+        ensures { mem result ≡ free (condition_of self.now.columns.now i.0) }
+    {
+        let f = facts_at(self.rows, i);
+        f.free
+    }
 
-pub fn collect_range_restricted(columns: &[u64; 513], rows: &[[u64; 7]], i: NodeNo) -> Names
-    requires { (i.0 < length (held columns.now)) × Noted columns.now rows.now × (is_condition (tree_of columns.now i.0) ≡ true) }
-    ensures { mem result ≡ restricted (condition_of columns.now i.0) }
-{
-    let f = facts_at(rows, i);
-    f.restricted
-}
+    pub fn collect_term_var(&self, i: NodeNo) -> Names
+        requires { (i.0 < length (held self.now.columns.now)) × (is_term (tree_of self.now.columns.now i.0) ≡ true) }
+        ensures { mem result ≡ term_free (term_of self.now.columns.now i.0) }
+    {
+        let f = facts_at(self.rows, i);
+        f.free
+    }
 
-pub fn body_has_sigil(columns: &[u64; 513], rows: &[[u64; 7]], i: NodeNo) -> bool
-    requires { (i.0 < length (held columns.now)) × Noted columns.now rows.now × (is_condition (tree_of columns.now i.0) ≡ true) }
-    ensures { result ≡ holds_sigil (condition_of columns.now i.0) }
-{
-    let f = facts_at(rows, i);
-    f.marks / SIGIL % 2 == 1
-}
+    pub fn collect_range_restricted(&self, i: NodeNo) -> Names
+        requires { (i.0 < length (held self.now.columns.now)) × (is_condition (tree_of self.now.columns.now i.0) ≡ true) }
+        ensures { mem result ≡ restricted (condition_of self.now.columns.now i.0) }
+    {
+        let f = facts_at(self.rows, i);
+        f.restricted
+    }
 
-// Whether no demand below is unmet, with these names tied. A walk goes no further then; it may say no where nothing is found.
-pub fn is_met(columns: &[u64; 513], rows: &[[u64; 7]], i: NodeNo, tied: Names) -> bool
-    requires { (i.0 < length (held columns.now)) × Noted columns.now rows.now × (has_row columns.now i.0 ≡ true) }
-    ensures { result ≡ met (known_of (tree_of columns.now i.0)).need (known_of (tree_of columns.now i.0)).hard (mem tied) }
-{
-    let f = facts_at(rows, i);
-    let need = f.need;
-    let unmet = need - tied;
-    !(f.marks / HARD % 2 == 1) & unmet.is_empty()
-}
+    pub fn body_has_sigil(&self, i: NodeNo) -> bool
+        requires { (i.0 < length (held self.now.columns.now)) × (is_condition (tree_of self.now.columns.now i.0) ≡ true) }
+        ensures { result ≡ holds_sigil (condition_of self.now.columns.now i.0) }
+    {
+        let f = facts_at(self.rows, i);
+        f.marks / SIGIL % 2 == 1
+    }
 
-// Whether no rule of scoping is broken below, with these words reserved and these names in scope.
-pub fn is_sound(
-    columns: &[u64; 513],
-    rows: &[[u64; 7]],
-    i: NodeNo,
-    words: Names,
-    scope: Names,
-) -> bool
-    requires { (i.0 < length (held columns.now)) × Noted columns.now rows.now × (has_row columns.now i.0 ≡ true) }
-    ensures { result ≡ sound (known_of (tree_of columns.now i.0)).broken (known_of (tree_of columns.now i.0)).binds (known_of (tree_of columns.now i.0)).unclosed (known_of (tree_of columns.now i.0)).free (mem words) (mem scope) }
-{
-    let f = facts_at(rows, i);
-    let free = f.free;
-    let unknown = free - scope;
-    let broken = f.marks / BROKEN % 2 == 1;
-    let binds = f.marks / BINDS % 2 == 1;
-    let unclosed = f.marks / UNCLOSED % 2 == 1;
-    !broken & ((!binds | words.is_empty()) & (!unclosed | unknown.is_empty()))
+    // Whether no demand below is unmet, with these names tied. A walk goes no further then; it may say no where nothing is found.
+    pub fn is_met(&self, i: NodeNo, tied: Names) -> bool
+        requires { (i.0 < length (held self.now.columns.now)) × (has_row self.now.columns.now i.0 ≡ true) }
+        ensures { result ≡ met (known_of (tree_of self.now.columns.now i.0)).need (known_of (tree_of self.now.columns.now i.0)).hard (mem tied) }
+    {
+        let f = facts_at(self.rows, i);
+        let need = f.need;
+        let unmet = need - tied;
+        !(f.marks / HARD % 2 == 1) & unmet.is_empty()
+    }
+
+    // Whether no rule of scoping is broken below, with these words reserved and these names in scope.
+    pub fn is_sound(&self, i: NodeNo, words: Names, scope: Names) -> bool
+        requires { (i.0 < length (held self.now.columns.now)) × (has_row self.now.columns.now i.0 ≡ true) }
+        ensures { result ≡ sound (known_of (tree_of self.now.columns.now i.0)).broken (known_of (tree_of self.now.columns.now i.0)).binds (known_of (tree_of self.now.columns.now i.0)).unclosed (known_of (tree_of self.now.columns.now i.0)).free (mem words) (mem scope) }
+    {
+        let f = facts_at(self.rows, i);
+        let free = f.free;
+        let unknown = free - scope;
+        let broken = f.marks / BROKEN % 2 == 1;
+        let binds = f.marks / BINDS % 2 == 1;
+        let unclosed = f.marks / UNCLOSED % 2 == 1;
+        !broken & ((!binds | words.is_empty()) & (!unclosed | unknown.is_empty()))
+    }
 }

@@ -7,7 +7,7 @@ ghost use Rattle.names.specs.Words.{mem};
 ghost use Rattle.record.specs.Stored.{Has};
 ghost use Rattle.known.specs.Rows.{Noted};
 ghost use Rattle.trees.specs.Trees.{tree_of, is_condition, is_term, condition_of, term_of};
-ghost use Rattle.writes.specs.Written.{Room, Wrote};
+ghost use Rattle.writes.specs.Walked.{HasRoom, Added};
 ghost use Rattle.scoping.specs.Scoped.{scoped};
 
 use aggregates::check_agg_expr;
@@ -15,43 +15,42 @@ use names::Names;
 use paper::NodeNo;
 use places::itself::{check_itself, scope_first};
 use places::nested::reject_nested_agg;
-use rows::read::is_sound;
+use rows::read::NotedNodes;
 use slots::with_binders;
 use views::{Below, Operand, below_at, operand_at};
+use writes::Entries;
 
 // The entries of a condition and of what lies below it, with these names in scope and these reserved. Where there are none, nothing is entered.
 #[cycle(check_condition_check_operand)]
 pub fn check_condition(
-    columns: &[u64; 513],
-    rows: &[[u64; 7]],
+    nodes: &NotedNodes,
     i: NodeNo,
     scope: Names,
     words: Names,
-    out: &mut [u32],
-    at: usize,
-) -> usize
-    requires has { Has columns.now i.0 × Noted columns.now rows.now × (is_condition (tree_of columns.now i.0) ≡ true) }
-    requires room { Room (scoped (mem words) (condition (condition_of columns.now i.0)) (mem scope)) at }
-    ensures { Wrote (scoped (mem words) (condition (condition_of columns.now i.0)) (mem scope)) at result out.old out.new }
+    entries: &mut Entries,
+)
+    requires has { Has nodes.now.columns.now i.0 × (is_condition (tree_of nodes.now.columns.now i.0) ≡ true) }
+    requires room { HasRoom (scoped (mem words) (condition (condition_of nodes.now.columns.now i.0)) (mem scope)) entries.old }
+    ensures { Added (scoped (mem words) (condition (condition_of nodes.now.columns.now i.0)) (mem scope)) entries.old entries.new }
 {
-    if is_sound(columns, rows, i, words, scope) {
-        return at;
+    if nodes.is_sound(i, words, scope) {
+        return;
     }
-    let p = check_itself(columns, rows, i, words, out, at);
-    let below = below_at(columns, i);
+    check_itself(nodes, i, words, entries);
+    let below = below_at(nodes.columns, i);
     match below {
-        Below::Nothing => p,
+        Below::Nothing => {}
         Below::Condition(b) => {
-            let inner = scope_first(columns, i, scope);
-            check_condition(columns, rows, b, inner, words, out, p)
+            let inner = scope_first(nodes.columns, i, scope);
+            check_condition(nodes, b, inner, words, entries);
         }
         Below::Conditions(l, r) => {
-            let q = check_condition(columns, rows, l, scope, words, out, p);
-            check_condition(columns, rows, r, scope, words, out, q)
+            check_condition(nodes, l, scope, words, entries);
+            check_condition(nodes, r, scope, words, entries);
         }
         Below::Operands(l, r) => {
-            let q = check_operand(columns, rows, l, scope, words, out, p);
-            check_operand(columns, rows, r, scope, words, out, q)
+            check_operand(nodes, l, scope, words, entries);
+            check_operand(nodes, r, scope, words, entries);
         }
     }
 }
@@ -59,33 +58,31 @@ pub fn check_condition(
 // The same of an operand of a comparison, through arithmetic to aggregates. One that is skipped has none.
 #[cycle(check_condition_check_operand)]
 pub fn check_operand(
-    columns: &[u64; 513],
-    rows: &[[u64; 7]],
+    nodes: &NotedNodes,
     i: NodeNo,
     scope: Names,
     words: Names,
-    out: &mut [u32],
-    at: usize,
-) -> usize
-    requires has { Has columns.now i.0 × Noted columns.now rows.now × (is_term (tree_of columns.now i.0) ≡ true) }
-    requires room { Room (scoped (mem words) (operand (term_of columns.now i.0)) (mem scope)) at }
-    ensures { Wrote (scoped (mem words) (operand (term_of columns.now i.0)) (mem scope)) at result out.old out.new }
+    entries: &mut Entries,
+)
+    requires has { Has nodes.now.columns.now i.0 × (is_term (tree_of nodes.now.columns.now i.0) ≡ true) }
+    requires room { HasRoom (scoped (mem words) (operand (term_of nodes.now.columns.now i.0)) (mem scope)) entries.old }
+    ensures { Added (scoped (mem words) (operand (term_of nodes.now.columns.now i.0)) (mem scope)) entries.old entries.new }
 {
-    if is_sound(columns, rows, i, words, scope) {
-        return at;
+    if nodes.is_sound(i, words, scope) {
+        return;
     }
-    let operand = operand_at(columns, i);
+    let operand = operand_at(nodes.columns, i);
     match operand {
         Operand::Arith(l, r) => {
-            let p = check_operand(columns, rows, l, scope, words, out, at);
-            check_operand(columns, rows, r, scope, words, out, p)
+            check_operand(nodes, l, scope, words, entries);
+            check_operand(nodes, r, scope, words, entries);
         }
         Operand::Aggregate(binders, body) => {
-            let p = check_agg_expr(columns, rows, i, scope, words, out, at);
-            let inner = with_binders(columns, scope, binders);
-            check_condition(columns, rows, body, inner, words, out, p)
+            check_agg_expr(nodes, i, scope, words, entries);
+            let inner = with_binders(nodes.columns, scope, binders);
+            check_condition(nodes, body, inner, words, entries);
         }
-        Operand::Array(items) => reject_nested_agg(columns, items, out, at),
-        _ => at,
+        Operand::Array(items) => reject_nested_agg(nodes.columns, items, entries),
+        _ => {}
     }
 }

@@ -25,9 +25,9 @@ pub for_ascending : (rule : ℕ) (n : NodeNo) (s : Set) → findings (for_names 
 unfolding findings
 for_ascending rule n s = go (members s 128)
   where
-    go : (l : List ℕ) → map (λ (x : ℕ). record { rule = rule; node = n; name = Name (name_no x) }) l ≡ for_each rule n (map name_no l)
+    go : (l : List ℕ) → map (λ (x : ℕ). record { rule = rule; node = n; name = Some (name_no x) }) l ≡ for_each rule n (map name_no l)
     go [] = refl
-    go (x ∷ l) = ap (λ (fs : List Finding). record { rule = rule; node = n; name = Name (name_no x) } ∷ fs) (go l)
+    go (x ∷ l) = ap (λ (fs : List Finding). record { rule = rule; node = n; name = Some (name_no x) } ∷ fs) (go l)
 
 pub no_names : (rule : ℕ) (n : NodeNo) (s : Set) → all_below 128 (outside s) ≡ true → findings (for_names rule n s) ≡ []
 unfolding findings outside

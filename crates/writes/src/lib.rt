@@ -5,7 +5,7 @@ ghost use Rattle.std.specs.Prelude.{◌≡◌, [], ◌∷◌, ◌<◌};
 ghost use Rattle.paper.specs.TheList.{subject_of, name_or_255, pack as packs, unpack as unpacks};
 ghost use Rattle.paper.specs.Places.{for_names, findings};
 ghost use Rattle.names.specs.Words.{mem};
-ghost use Rattle.writes.specs.Written.{Room, Wrote, first_of};
+ghost use Rattle.writes.specs.Written.{first_of};
 
 use names::Names;
 use paper::{Finding, NameNo, NodeNo};
@@ -49,32 +49,37 @@ pub fn unpack(v: u32) -> Finding
     }
 }
 
-// One entry, if there is room for it; the count goes on either way.
-pub fn put(out: &mut [u32], at: usize, f: Finding) -> usize
-    requires { Room (f ∷ []) at }
-    ensures { Wrote (f ∷ []) at result out.old out.new }
-{
-    if at < out.len() {
-        out[at] = pack(f);
-    }
-    at + 1
+// Entries in a lent buffer, as far as it has room, and how many they are: the count goes on past the room.
+#[derive(Drop)]
+pub struct Entries<'a> {
+    pub out: &'a mut [u32],
+    pub count: usize,
 }
 
-// The entries of a rule at a node for each name of a set, ascending.
-pub fn emit(out: &mut [u32], at: usize, rule: u8, n: NodeNo, s: Names) -> usize
-    requires { Room (findings (for_names rule n (mem s))) at }
-    ensures { Wrote (findings (for_names rule n (mem s))) at result out.old out.new }
-{
-    let mut p = at;
-    for x in s {
-        let f = Finding {
-            rule: rule,
-            node: n,
-            name: Some(x),
-        };
-        p = put(out, p, f);
+impl Entries<'_> {
+    ghost use Rattle.writes.specs.Walked.{HasRoom, Added};
+
+    // One entry, if there is room for it; the count goes on either way.
+    pub fn put(&mut self, f: Finding)
+        requires { HasRoom (f ∷ []) self.old }
+        ensures { Added (f ∷ []) self.old self.new }
+    {
+        if self.count < self.out.len() {
+            self.out[self.count] = pack(f);
+        }
+        self.count += 1;
     }
-    p
+
+    // The entries of a rule at a node for each name of a set, ascending.
+    pub fn emit(&mut self, rule: u8, node: NodeNo, s: Names)
+        requires { HasRoom (findings (for_names rule node (mem s))) self.old }
+        ensures { Added (findings (for_names rule node (mem s))) self.old self.new }
+    {
+        for x in s {
+            let name = Some(x);
+            self.put(Finding { rule, node, name });
+        }
+    }
 }
 
 // The first entry that a check found, if it found one, from the count of its entries and the first of their numbers.

@@ -12,7 +12,7 @@ use Rattle.paper.specs.declared.Slot.TheVariants.{Name}
 use Rattle.paper.specs.Sets.{Set}
 use Rattle.paper.specs.Places.{at_cells, gather, at_cell, findings}
 use Rattle.paper.specs.Scoping.{cell_of}
-use Rattle.writes.proofs.WriteLaws.{wrote_none, wrote_is, room_is}
+use Rattle.writes.proofs.WriteLaws.{added_none, added_is, room_is}
 use Rattle.cells.proofs.AggregateLaws.{no_cell_entry}
 use Rattle.cells.proofs.emit_cell.Goals as goal
 
@@ -28,15 +28,15 @@ has_other_name rule s n x e h = rw (e, h)
 
 pub returns-then-contains : goal.returns-then-contains
 returns-then-contains c =
-    wrote_is (has_name _ _ _ _ c.in-Name.is (sym c.contains.ensures ∙ c.if-contains.true)) c.put.ensures
+    added_is (has_name _ _ _ _ c.in-Name.is (sym c.contains.ensures ∙ c.if-contains.true)) c.put.ensures
 
 pub returns-else-contains : goal.returns-else-contains
 returns-else-contains c =
-    wrote_is (has_other_name _ _ _ _ c.in-Name.is (sym c.contains.ensures ∙ c.if-contains.false)) wrote_none
+    added_is (has_other_name _ _ _ _ c.in-Name.is (sym c.contains.ensures ∙ c.if-contains.false)) added_none
 
 pub returns-in_default : goal.returns-in_default
 returns-in_default c =
-    wrote_is (no_cell_entry _ _ _ _ (opened c.in_default.in_default-own.keys2)) wrote_none
+    added_is (no_cell_entry _ _ _ _ (opened c.in_default.in_default-own.keys2)) added_none
 
 pub put-requires : goal.put-requires
 put-requires c = room_is (has_name _ _ _ _ c.in-Name.is (sym c.contains.ensures ∙ c.if-contains.true)) c.requires

@@ -6,14 +6,14 @@ use Rattle.paper.specs.declared.NodeNo.{NodeNo}
 use Rattle.paper.specs.declared.Finding.{Finding}
 use Rattle.paper.specs.Sets.{Set}
 use Rattle.paper.specs.Places.{for_names, findings}
-use Rattle.writes.proofs.WriteLaws.{wrote_is, room_is}
+use Rattle.writes.proofs.WriteLaws.{added_is, room_is}
 use Rattle.owed.proofs.reject_unmet_var.Goals as goal
 
 abbrev entries_for : ℕ → NodeNo → Set → List Finding
 entries_for rule n s = findings (for_names rule n s)
 
 pub returns : goal.returns
-returns c = wrote_is (ap (entries_for _ _) (sym c.sub-unmet.ensures)) c.emit.ensures
+returns c = added_is (ap (entries_for _ _) (sym c.sub-unmet.ensures)) c.emit.ensures
 
 pub emit-requires : goal.emit-requires
 emit-requires c = room_is (ap (entries_for _ _) (sym c.sub-unmet.ensures)) c.requires

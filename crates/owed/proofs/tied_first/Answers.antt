@@ -9,14 +9,14 @@ use Rattle.owed.proofs.DemandLaws.{first_since, first_exists, first_same}
 use Rattle.owed.proofs.tied_first.Goals as goal
 use Rattle.owed.proofs.tied_first.Goals.{After-owing_at}
 
-told : (c : After-owing_at) {s : Owing} → c.owing_at.result ≡ s → OwingArm c.args.columns.now c.args.i.0 s
-told c p = owing_told (sym p ∙ c.owing_at.ensures) (held_arm c.requires.0)
+told : (c : After-owing_at) {s : Owing} → c.owing_at.result ≡ s → OwingArm c.args.nodes.now.columns.now c.args.i.0 s
+told c p = owing_told (sym p ∙ c.owing_at.ensures) (held_arm c.requires)
 
 pub owing_at-requires : goal.owing_at-requires
-owing_at-requires c = c.requires.0
+owing_at-requires c = c.requires
 
 pub collect_range_restricted-given-requires : goal.collect_range_restricted-given-requires
-collect_range_restricted-given-requires c = body_row (told (goal.at.collect_range_restricted-given-requires c).After-owing_at c.in-Since.is).1.children.1.0 c.requires.1
+collect_range_restricted-given-requires c = body_row (told (goal.at.collect_range_restricted-given-requires c).After-owing_at c.in-Since.is).1.children.1.0
 
 pub without_slot-requires : goal.without_slot-requires
 without_slot-requires c = slot_tabled c.in-Exists.slot (told (goal.at.without_slot-requires c).After-owing_at c.in-Exists.is).2.tabled
@@ -28,4 +28,4 @@ pub returns-in-Exists : goal.returns-in-Exists
 returns-in-Exists c = first_exists _ (told (goal.at.returns-in-Exists c).After-owing_at c.in-Exists.is).2 c.without_slot.ensures
 
 pub returns-in_default : goal.returns-in_default
-returns-in_default c = first_same c.owing_at.ensures (held_arm c.requires.0) _ (opened c.in_default.in_default-own.keys3)
+returns-in_default c = first_same c.owing_at.ensures (held_arm c.requires) _ (opened c.in_default.in_default-own.keys3)

@@ -1,10 +1,10 @@
-use Rattle.writes.proofs.WriteLaws.{wrote_is, room_is}
+use Rattle.writes.proofs.WriteLaws.{added_is, room_is}
 use Rattle.writes.proofs.NameLaws.{for_same}
 use Rattle.checks.proofs.closed.check_leaf_closed.Goals as goal
 
 pub returns : goal.returns
 returns c =
-    wrote_is (for_same _ _ c.collect_free-open.ensures) c.emit.ensures
+    added_is (for_same _ _ c.collect_free-open.ensures) c.emit.ensures
 
 pub collect_free-open-requires : goal.collect_free-open-requires
 collect_free-open-requires c = c.requires.i_in_bounds

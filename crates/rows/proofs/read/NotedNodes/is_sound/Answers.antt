@@ -7,7 +7,7 @@ use Rattle.known.specs.Needs.{has_none, sound}
 use Rattle.known.specs.Known.{Known}
 use Rattle.known.specs.Rows.{meant}
 use Rattle.known.proofs.RowLaws.{noted}
-use Rattle.rows.proofs.read.is_sound.Goals as goal
+use Rattle.rows.proofs.read.NotedNodes.is_sound.Goals as goal
 
 pub returns : goal.returns
 unfolding sound has_none meant bit
@@ -16,7 +16,7 @@ returns c =
     ap₂ (λ (a b : Bool). not (bit f.marks 2) && ((not (bit f.marks 3) || a) && (not (bit f.marks 4) || b))) c.is_empty.ensures
     (c.is_empty-2.ensures ∙ ap has_none c.sub-unknown.ensures)
     ∙ ap (λ (k : Known). sound k.broken k.binds k.unclosed k.free (mem c.args.words) (mem c.args.scope))
-    (noted c.requires.1 c.requires.0 c.requires.2 c.facts_at-f.ensures)
+    (noted c.args.self.now.noted c.requires.0 c.requires.1 c.facts_at-f.ensures)
 
 pub facts_at-f-requires : goal.facts_at-f-requires
-facts_at-f-requires c = let l = c.requires.0 in let f = c.requires.1.fits in omega arith
+facts_at-f-requires c = let l = c.requires.0 in let f = c.args.self.now.noted.fits in omega arith

@@ -7,13 +7,13 @@ use Rattle.known.specs.Needs.{has_none, met}
 use Rattle.known.specs.Known.{Known}
 use Rattle.known.specs.Rows.{meant}
 use Rattle.known.proofs.RowLaws.{noted}
-use Rattle.rows.proofs.read.is_met.Goals as goal
+use Rattle.rows.proofs.read.NotedNodes.is_met.Goals as goal
 
 pub returns : goal.returns
 unfolding met has_none meant bit
 returns c =
     ap (λ (b : Bool). not (bit c.facts_at-f.result.marks 1) && b) (c.is_empty.ensures ∙ ap has_none c.sub-unmet.ensures)
-    ∙ ap (λ (k : Known). met k.need k.hard (mem c.args.tied)) (noted c.requires.1 c.requires.0 c.requires.2 c.facts_at-f.ensures)
+    ∙ ap (λ (k : Known). met k.need k.hard (mem c.args.tied)) (noted c.args.self.now.noted c.requires.0 c.requires.1 c.facts_at-f.ensures)
 
 pub facts_at-f-requires : goal.facts_at-f-requires
-facts_at-f-requires c = let l = c.requires.0 in let f = c.requires.1.fits in omega arith
+facts_at-f-requires c = let l = c.requires.0 in let f = c.args.self.now.noted.fits in omega arith
