@@ -10,7 +10,7 @@ ghost use Rattle.writes.specs.Written.{Room, Wrote};
 
 use names::Names;
 use paper::{Finding, NodeNo, Slot, Subject};
-use slots::{Binder, binder_at};
+use slots::binder_at;
 use writes::put;
 
 // A rule's entry at a cell, if the cell binds one of some names.
@@ -52,10 +52,10 @@ pub fn emit_cells(
         return at;
     }
     match binder_at(columns, i) {
-        Binder::Cell(slot, rest) => {
+        Some((slot, rest)) => {
             let p = emit_cell(i, slot, rule, s, out, at);
             emit_cells(columns, rest, rule, s, out, p)
         }
-        Binder::End => at,
+        None => at,
     }
 }

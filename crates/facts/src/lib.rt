@@ -53,19 +53,12 @@ fn collect_list(columns: &[u64; 513], rows: &mut [[u64; 7]], list: NodeNo)
 {
     let mut at = list;
     let mut all = nothing();
-    loop {
-        match cell_at(columns, at) {
-            Parts::Then(t, rest) => {
-                collect_facts(columns, rows, t);
-                all = join_facts(all, facts_at(rows, t));
-                at = rest;
-            }
-            _ => {
-                put_facts(rows, list, all);
-                return;
-            }
-        }
+    while let Some((term, rest)) = cell_at(columns, at) {
+        collect_facts(columns, rows, term);
+        all = join_facts(all, facts_at(rows, term));
+        at = rest;
     }
+    put_facts(rows, list, all);
 }
 
 // Puts the row of a node, after those of all conditions and terms below it. Each node has one parent, so that none is looked at twice.
