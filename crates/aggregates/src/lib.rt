@@ -11,6 +11,7 @@ ghost use Rattle.writes.specs.Written.{Room, Wrote};
 ghost use Rattle.cells.specs.Aggregates.{five, five_of};
 
 use cells::emit_cells;
+use known::Facts;
 use names::Names;
 use paper::{Node, NodeNo};
 use record::access::node_at;
@@ -21,7 +22,7 @@ use writes::emit;
 // 22 at the cells, 24 and 25 at the aggregate, 26 and 27 at the cells.
 fn check_aggregation(
     columns: &[u64; 513],
-    rows: &[[u64; 7]],
+    rows: &[Facts],
     n: NodeNo,
     summed: Names,
     binders: NodeNo,
@@ -53,7 +54,7 @@ fn check_aggregation(
 // The same of the aggregate that a node is.
 pub fn check_agg_expr(
     columns: &[u64; 513],
-    rows: &[[u64; 7]],
+    rows: &[Facts],
     i: NodeNo,
     scope: Names,
     words: Names,

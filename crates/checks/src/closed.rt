@@ -7,6 +7,7 @@ ghost use Rattle.known.specs.Rows.{Noted};
 ghost use Rattle.trees.specs.Trees.{tree_of, condition_of, is_condition};
 ghost use Rattle.writes.specs.Written.{Room, Wrote};
 
+use known::Facts;
 use paper::NodeNo;
 use rows::read::collect_free;
 use writes::emit;
@@ -14,7 +15,7 @@ use writes::emit;
 // 28 at the node for each of its free names, ascending.
 pub fn check_leaf_closed(
     columns: &[u64; 513],
-    rows: &[[u64; 7]],
+    rows: &[Facts],
     i: NodeNo,
     out: &mut [u32],
     at: usize,

@@ -10,6 +10,7 @@ ghost use Rattle.trees.specs.Trees.{tree_of, is_condition, is_term, condition_of
 ghost use Rattle.writes.specs.Written.{Room, Wrote};
 ghost use Rattle.owed.specs.Demanded.{demanded};
 
+use known::Facts;
 use names::Names;
 use owed::{asked_first, check_own_demands, tied_first, tied_second};
 use paper::NodeNo;
@@ -21,7 +22,7 @@ use views::{Below, Operand, below_at, operand_at};
 #[cycle(check_chain_descend_nested_chains)]
 pub fn check_chain(
     columns: &[u64; 513],
-    rows: &[[u64; 7]],
+    rows: &[Facts],
     i: NodeNo,
     tied: Names,
     asked: bool,
@@ -61,7 +62,7 @@ pub fn check_chain(
 #[cycle(check_chain_descend_nested_chains)]
 pub fn descend_nested_chains(
     columns: &[u64; 513],
-    rows: &[[u64; 7]],
+    rows: &[Facts],
     i: NodeNo,
     tied: Names,
     out: &mut [u32],

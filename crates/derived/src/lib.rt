@@ -82,7 +82,7 @@ fn summed(columns: &[u64; 513], body: Facts, slot: Slot, list: NodeNo) -> Facts
 }
 
 // What is known of a node that has one part: a condition, or a list.
-pub fn over_facts(columns: &[u64; 513], rows: &[[u64; 7]], i: NodeNo, b: NodeNo) -> Facts
+pub fn over_facts(columns: &[u64; 513], rows: &[Facts], i: NodeNo, b: NodeNo) -> Facts
     requires { Has columns.now i.0 × (nodes_of (parts_of (node_of columns.now i.0)) ≡ b.0 ∷ []) × Sound columns.now rows.now (node_of columns.now i.0) }
     ensures { meant result ≡ own (tree_of columns.now) (node_of columns.now i.0) }
 {
@@ -105,7 +105,7 @@ pub fn over_facts(columns: &[u64; 513], rows: &[[u64; 7]], i: NodeNo, b: NodeNo)
 }
 
 // What is known of a node that has two parts: conditions or terms, or one and a list.
-pub fn pair_facts(columns: &[u64; 513], rows: &[[u64; 7]], i: NodeNo, l: NodeNo, r: NodeNo) -> Facts
+pub fn pair_facts(columns: &[u64; 513], rows: &[Facts], i: NodeNo, l: NodeNo, r: NodeNo) -> Facts
     requires { Has columns.now i.0 × (nodes_of (parts_of (node_of columns.now i.0)) ≡ l.0 ∷ r.0 ∷ []) × Sound columns.now rows.now (node_of columns.now i.0) }
     ensures { meant result ≡ own (tree_of columns.now) (node_of columns.now i.0) }
 {

@@ -7,6 +7,7 @@ ghost use Rattle.writes.specs.Written.{Room, Wrote};
 ghost use Rattle.listing.specs.Parts.{Last, part_of};
 
 use facts::collect_facts;
+use known::Facts;
 use listing::{Check, is_quiet, write_part};
 use paper::NodeNo;
 
@@ -14,7 +15,7 @@ fn part_noted(
     columns: &[u64; 513],
     i: NodeNo,
     check: Check,
-    rows: &mut [[u64; 7]],
+    rows: &mut [Facts],
     out: &mut [u32],
 ) -> usize
     requires last { Last columns.now i.0 × (i.0 < length rows.old) }
@@ -34,7 +35,7 @@ pub fn part_entries(columns: &[u64; 513], i: NodeNo, check: Check, out: &mut [u3
     requires room { Room (part_of check i (condition_of columns.now i.0)) 0 }
     ensures { Wrote (part_of check i (condition_of columns.now i.0)) 0 result out.old out.new }
 {
-    let blank = [0u64; 7];
+    let blank = Facts::default();
     if i.0 < 32 {
         let mut few = [blank; 32];
         return part_noted(columns, i, check, &mut few, out);

@@ -91,20 +91,20 @@ cell_is {columns} {at} h r = cell_same (tree_of columns) (node_no at) (node_of c
 -- ---- going along a list
 
 -- what stands before the cell at `at` is right, and `all` is what its terms have
-pub record Along (columns : List ℕ) (before rows : List (List ℕ)) (all : Known) (list at : ℕ) : Type 0 where
+pub record Along (columns : List ℕ) (before rows : List Facts) (all : Known) (list at : ℕ) : Type 0 where
   pub kept : Kept columns before rows
   pub has : Has columns at
   pub row : is_row (tree_of columns at) ≡ true
   pub joined : join all (known_of (tree_of columns at)) ≡ known_of (tree_of columns list)
   pub passed : (k : ℕ) → Reaches columns list k → has_row columns k ≡ true → Right columns rows k ⊎ Reaches columns at k
 
-pub along_start : {columns : List ℕ} {rows : List (List ℕ)} {list : ℕ} {all : Known} → all ≡ nothing → Has columns list → is_row (tree_of columns list) ≡ true
+pub along_start : {columns : List ℕ} {rows : List Facts} {list : ℕ} {all : Known} → all ≡ nothing → Has columns list → is_row (tree_of columns list) ≡ true
     → Along columns rows rows all list list
 unfolding join both nothing ◌∪◌ none
 along_start {columns} {list = list} e h r =
     record { kept = kept_same; has = h; row = r; joined = ap (λ (z : Known). join z (known_of (tree_of columns list))) e; passed = λ k s t. inr s }
 
-module _ {columns : List ℕ} {before rows : List (List ℕ)} {all : Known} {list at : ℕ} {m : Node} {o : Option (NodeNo × NodeNo)} (a : Along columns before rows all list at)
+module _ {columns : List ℕ} {before rows : List Facts} {all : Known} {list at : ℕ} {m : Node} {o : Option (NodeNo × NodeNo)} (a : Along columns before rows all list at)
     (is : m ≡ node_of columns at) (cell_at : o ≡ cell_of m) where
   abbrev p : Parts
   p = cell_parts o
@@ -135,7 +135,7 @@ no_cell None h = refl
 no_cell (Some a) h = absurd (h a refl)
 
 -- the next cell
-pub along_step : {columns : List ℕ} {before rows after : List (List ℕ)} {all more : Known} {list at : ℕ} {m : Node} {x rest : NodeNo}
+pub along_step : {columns : List ℕ} {before rows after : List Facts} {all more : Known} {list at : ℕ} {m : Node} {x rest : NodeNo}
     → Along columns before rows all list at → m ≡ node_of columns at → ◌≡◌ {A = Option (NodeNo × NodeNo)} (Some (x, rest)) (cell_of m) → Gathered columns rows after x.0
     → more ≡ join all (known_of (tree_of columns x.0)) → Along columns before after more list rest.0
 along_step {columns} {after = after} {all} {list = list} {x = x} {rest} a is of g e =
@@ -154,7 +154,7 @@ along_step {columns} {after = after} {all} {list = list} {x = x} {rest} a is of 
     }
 
 -- the end of the list
-pub along_end : {columns : List ℕ} {before rows after : List (List ℕ)} {list at : ℕ} {m : Node} {f : Facts}
+pub along_end : {columns : List ℕ} {before rows after : List Facts} {list at : ℕ} {m : Node} {f : Facts}
     → Along columns before rows (meant f) list at → m ≡ node_of columns at → ◌≡◌ {A = Option (NodeNo × NodeNo)} None (cell_of m)
     → list < length rows → Put rows list f after → Gathered columns before after list
 along_end {columns} {rows = rows} {after} {list} {at} {f = f} a is of l put =

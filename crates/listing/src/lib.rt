@@ -11,6 +11,7 @@ ghost use Rattle.listing.specs.Parts.{demands_of, part_of, listed, quiet, clean}
 
 use checks::closed::check_leaf_closed;
 use demands::check_chain;
+use known::Facts;
 use names::Names;
 use paper::NodeNo;
 use rows::read::{body_has_sigil, collect_free, is_met, is_sound};
@@ -27,7 +28,7 @@ pub enum Check {
 // 30 to 32; none if the condition holds a sigil.
 pub fn check_demands(
     columns: &[u64; 513],
-    rows: &[[u64; 7]],
+    rows: &[Facts],
     i: NodeNo,
     out: &mut [u32],
     at: usize,
@@ -46,7 +47,7 @@ pub fn check_demands(
 // 20 to 27 with the seed's names in scope, or 28, or 30 to 32.
 pub fn write_part(
     columns: &[u64; 513],
-    rows: &[[u64; 7]],
+    rows: &[Facts],
     i: NodeNo,
     check: Check,
     out: &mut [u32],
@@ -65,7 +66,7 @@ pub fn write_part(
 // 20 to 27 with nothing in scope, then 28, then 30 to 32.
 pub fn write_list(
     columns: &[u64; 513],
-    rows: &[[u64; 7]],
+    rows: &[Facts],
     i: NodeNo,
     words: Names,
     out: &mut [u32],
@@ -81,7 +82,7 @@ pub fn write_list(
 }
 
 // Whether a part has nothing to tell of a root: then its walk does not have to begin.
-pub fn is_quiet(columns: &[u64; 513], rows: &[[u64; 7]], i: NodeNo, check: Check) -> bool
+pub fn is_quiet(columns: &[u64; 513], rows: &[Facts], i: NodeNo, check: Check) -> bool
     requires { Has columns.now i.0 × Noted columns.now rows.now × (is_condition (tree_of columns.now i.0) ≡ true) }
     ensures { (result ≡ quiet check (tree_of columns.now i.0)) × (result ≡ true → part_of check i (condition_of columns.now i.0) ≡ []) }
 {
@@ -101,7 +102,7 @@ pub fn is_quiet(columns: &[u64; 513], rows: &[[u64; 7]], i: NodeNo, check: Check
 }
 
 // The same of the whole list.
-pub fn is_clean(columns: &[u64; 513], rows: &[[u64; 7]], i: NodeNo, words: Names) -> bool
+pub fn is_clean(columns: &[u64; 513], rows: &[Facts], i: NodeNo, words: Names) -> bool
     requires { Has columns.now i.0 × Noted columns.now rows.now × (is_condition (tree_of columns.now i.0) ≡ true) }
     ensures { result ≡ clean (mem words) (tree_of columns.now i.0) }
 {

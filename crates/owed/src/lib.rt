@@ -12,6 +12,7 @@ ghost use Rattle.trees.specs.Trees.{condition_of};
 ghost use Rattle.writes.specs.Written.{Room, Wrote};
 ghost use Rattle.owed.specs.Demanded.{place_below, FirstAsked, owed, owed_compared, owed_equated};
 
+use known::Facts;
 use names::Names;
 use paper::{Equality, NodeNo};
 use rows::read::{collect_free, collect_range_restricted, collect_term_var};
@@ -75,7 +76,7 @@ fn check_equality_demands(
 // The entries of a condition itself: 30 to 32 for the names that are not tied.
 fn check_conjunct_demands(
     columns: &[u64; 513],
-    rows: &[[u64; 7]],
+    rows: &[Facts],
     i: NodeNo,
     tied: Names,
     out: &mut [u32],
@@ -115,7 +116,7 @@ fn check_conjunct_demands(
 // The same, if the condition is asked.
 pub fn check_own_demands(
     columns: &[u64; 513],
-    rows: &[[u64; 7]],
+    rows: &[Facts],
     i: NodeNo,
     tied: Names,
     asked: bool,
@@ -133,7 +134,7 @@ pub fn check_own_demands(
 }
 
 // What is tied at the first part of a condition: on the left of Since also what the right restricts, below a binder not its name.
-pub fn tied_first(columns: &[u64; 513], rows: &[[u64; 7]], i: NodeNo, tied: Names) -> Names
+pub fn tied_first(columns: &[u64; 513], rows: &[Facts], i: NodeNo, tied: Names) -> Names
     requires { Has columns.now i.0 × Noted columns.now rows.now }
     ensures { mem result ≡ (place_below 0 (condition_of columns.now i.0) (mem tied)).names }
 {
@@ -148,7 +149,7 @@ pub fn tied_first(columns: &[u64; 513], rows: &[[u64; 7]], i: NodeNo, tied: Name
 }
 
 // What is tied at the second part: on the right of And also what the left restricts.
-pub fn tied_second(columns: &[u64; 513], rows: &[[u64; 7]], i: NodeNo, tied: Names) -> Names
+pub fn tied_second(columns: &[u64; 513], rows: &[Facts], i: NodeNo, tied: Names) -> Names
     requires { Has columns.now i.0 × Noted columns.now rows.now }
     ensures { mem result ≡ (place_below 1 (condition_of columns.now i.0) (mem tied)).names }
 {

@@ -11,6 +11,7 @@ ghost use Rattle.trees.specs.Trees.{tree_of, condition_of, is_condition};
 ghost use Rattle.trees.specs.Terms.{Tabled};
 ghost use Rattle.writes.specs.Written.{Room, Wrote};
 
+use known::Facts;
 use names::Names;
 use paper::{NodeNo, Slot};
 use rows::read::{body_has_sigil, collect_range_restricted};
@@ -35,7 +36,7 @@ pub fn reject_reserved_binder(
 }
 
 // The slot's name, unless the body restricts it or holds a sigil.
-fn unsafe_name(columns: &[u64; 513], rows: &[[u64; 7]], slot: Slot, body: NodeNo) -> Names
+fn unsafe_name(columns: &[u64; 513], rows: &[Facts], slot: Slot, body: NodeNo) -> Names
     requires { Tabled slot × (body.0 < length (held columns.now)) × Noted columns.now rows.now × (is_condition (tree_of columns.now body.0) ≡ true) }
     ensures { mem result ≡ pick (holds_sigil (condition_of columns.now body.0)) none (named slot ∖ restricted (condition_of columns.now body.0)) }
 {
@@ -50,7 +51,7 @@ fn unsafe_name(columns: &[u64; 513], rows: &[[u64; 7]], slot: Slot, body: NodeNo
 // 22 and then 23 at the binder of an exists: its name is reserved, or its body does not restrict it.
 pub fn check_exists_binder(
     columns: &[u64; 513],
-    rows: &[[u64; 7]],
+    rows: &[Facts],
     n: NodeNo,
     slot: Slot,
     body: NodeNo,

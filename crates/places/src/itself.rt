@@ -9,6 +9,7 @@ ghost use Rattle.places.specs.Itself.{at_itself, scope_first};
 
 use crate::binders::{check_exists_binder, reject_reserved_binder};
 use crate::nested::reject_nested_agg;
+use known::Facts;
 use names::Names;
 use paper::NodeNo;
 use slots::with_slot;
@@ -17,7 +18,7 @@ use views::{Itself, itself_at};
 // 22 and 23 at an exists, 22 at a tp, 20 and 21 in the arguments of a predicate.
 pub fn check_itself(
     columns: &[u64; 513],
-    rows: &[[u64; 7]],
+    rows: &[Facts],
     i: NodeNo,
     words: Names,
     out: &mut [u32],

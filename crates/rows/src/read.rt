@@ -9,11 +9,11 @@ ghost use Rattle.known.specs.Known.{known_of};
 ghost use Rattle.known.specs.Rows.{Noted, has_row};
 
 use crate::row::facts_at;
-use known::{BINDS, BROKEN, HARD, SIGIL, UNCLOSED};
+use known::{BINDS, BROKEN, Facts, HARD, SIGIL, UNCLOSED};
 use names::Names;
 use paper::NodeNo;
 
-pub fn collect_free(columns: &[u64; 513], rows: &[[u64; 7]], i: NodeNo) -> Names
+pub fn collect_free(columns: &[u64; 513], rows: &[Facts], i: NodeNo) -> Names
     requires { (i.0 < length (held columns.now)) × Noted columns.now rows.now × (is_condition (tree_of columns.now i.0) ≡ true) }
     ensures { mem result ≡ free (condition_of columns.now i.0) }
 {
@@ -21,7 +21,7 @@ pub fn collect_free(columns: &[u64; 513], rows: &[[u64; 7]], i: NodeNo) -> Names
     f.free
 }
 
-pub fn collect_term_var(columns: &[u64; 513], rows: &[[u64; 7]], i: NodeNo) -> Names
+pub fn collect_term_var(columns: &[u64; 513], rows: &[Facts], i: NodeNo) -> Names
     requires { (i.0 < length (held columns.now)) × Noted columns.now rows.now × (is_term (tree_of columns.now i.0) ≡ true) }
     ensures { mem result ≡ term_free (term_of columns.now i.0) }
 {
@@ -29,7 +29,7 @@ pub fn collect_term_var(columns: &[u64; 513], rows: &[[u64; 7]], i: NodeNo) -> N
     f.free
 }
 
-pub fn collect_range_restricted(columns: &[u64; 513], rows: &[[u64; 7]], i: NodeNo) -> Names
+pub fn collect_range_restricted(columns: &[u64; 513], rows: &[Facts], i: NodeNo) -> Names
     requires { (i.0 < length (held columns.now)) × Noted columns.now rows.now × (is_condition (tree_of columns.now i.0) ≡ true) }
     ensures { mem result ≡ restricted (condition_of columns.now i.0) }
 {
@@ -37,7 +37,7 @@ pub fn collect_range_restricted(columns: &[u64; 513], rows: &[[u64; 7]], i: Node
     f.restricted
 }
 
-pub fn body_has_sigil(columns: &[u64; 513], rows: &[[u64; 7]], i: NodeNo) -> bool
+pub fn body_has_sigil(columns: &[u64; 513], rows: &[Facts], i: NodeNo) -> bool
     requires { (i.0 < length (held columns.now)) × Noted columns.now rows.now × (is_condition (tree_of columns.now i.0) ≡ true) }
     ensures { result ≡ holds_sigil (condition_of columns.now i.0) }
 {
@@ -46,7 +46,7 @@ pub fn body_has_sigil(columns: &[u64; 513], rows: &[[u64; 7]], i: NodeNo) -> boo
 }
 
 // Whether no demand below is unmet, with these names tied. A walk goes no further then; it may say no where nothing is found.
-pub fn is_met(columns: &[u64; 513], rows: &[[u64; 7]], i: NodeNo, tied: Names) -> bool
+pub fn is_met(columns: &[u64; 513], rows: &[Facts], i: NodeNo, tied: Names) -> bool
     requires { (i.0 < length (held columns.now)) × Noted columns.now rows.now × (has_row columns.now i.0 ≡ true) }
     ensures { result ≡ met (known_of (tree_of columns.now i.0)).need (known_of (tree_of columns.now i.0)).hard (mem tied) }
 {
@@ -57,13 +57,7 @@ pub fn is_met(columns: &[u64; 513], rows: &[[u64; 7]], i: NodeNo, tied: Names) -
 }
 
 // Whether no rule of scoping is broken below, with these words reserved and these names in scope.
-pub fn is_sound(
-    columns: &[u64; 513],
-    rows: &[[u64; 7]],
-    i: NodeNo,
-    words: Names,
-    scope: Names,
-) -> bool
+pub fn is_sound(columns: &[u64; 513], rows: &[Facts], i: NodeNo, words: Names, scope: Names) -> bool
     requires { (i.0 < length (held columns.now)) × Noted columns.now rows.now × (has_row columns.now i.0 ≡ true) }
     ensures { result ≡ sound (known_of (tree_of columns.now i.0)).broken (known_of (tree_of columns.now i.0)).binds (known_of (tree_of columns.now i.0)).unclosed (known_of (tree_of columns.now i.0)).free (mem words) (mem scope) }
 {

@@ -11,6 +11,7 @@ ghost use Rattle.writes.specs.Written.{Room, Wrote};
 ghost use Rattle.scoping.specs.Scoped.{scoped};
 
 use aggregates::check_agg_expr;
+use known::Facts;
 use names::Names;
 use paper::NodeNo;
 use places::itself::{check_itself, scope_first};
@@ -23,7 +24,7 @@ use views::{Below, Operand, below_at, operand_at};
 #[cycle(check_condition_check_operand)]
 pub fn check_condition(
     columns: &[u64; 513],
-    rows: &[[u64; 7]],
+    rows: &[Facts],
     i: NodeNo,
     scope: Names,
     words: Names,
@@ -60,7 +61,7 @@ pub fn check_condition(
 #[cycle(check_condition_check_operand)]
 pub fn check_operand(
     columns: &[u64; 513],
-    rows: &[[u64; 7]],
+    rows: &[Facts],
     i: NodeNo,
     scope: Names,
     words: Names,

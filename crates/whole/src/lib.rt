@@ -10,6 +10,7 @@ ghost use Rattle.writes.specs.Written.{Room};
 ghost use Rattle.listing.specs.Parts.{Last, listed, Filled};
 
 use facts::collect_facts;
+use known::Facts;
 use listing::{is_clean, write_list};
 use names::Names;
 use paper::NodeNo;
@@ -17,7 +18,7 @@ use paper::NodeNo;
 // Counted first, so that a list without room writes nothing.
 fn list_counted(
     columns: &[u64; 513],
-    rows: &[[u64; 7]],
+    rows: &[Facts],
     i: NodeNo,
     words: Names,
     out: &mut [u32],
@@ -43,7 +44,7 @@ fn list_noted(
     i: NodeNo,
     words: Names,
     most: usize,
-    rows: &mut [[u64; 7]],
+    rows: &mut [Facts],
     out: &mut [u32],
 ) -> usize
     requires last { Last columns.now i.0 × (i.0 < length rows.old) }
@@ -72,7 +73,7 @@ pub fn list_entries(
     requires room { Room (listed (mem words) i (condition_of columns.now i.0)) 0 × (length (listed (mem words) i (condition_of columns.now i.0)) ≤ most) }
     ensures { Filled (listed (mem words) i (condition_of columns.now i.0)) result out.old out.new }
 {
-    let blank = [0u64; 7];
+    let blank = Facts::default();
     if i.0 < 32 {
         let mut few = [blank; 32];
         return list_noted(columns, i, words, most, &mut few, out);
