@@ -10,7 +10,7 @@ ghost use Rattle.writes.specs.Walked.{HasRoom, Added};
 
 use names::Names;
 use paper::{Finding, NodeNo, Slot};
-use slots::{Binder, binder_at};
+use slots::binder_at;
 use writes::Entries;
 
 // A rule's entry at a cell, if the cell binds one of some names.
@@ -44,10 +44,10 @@ pub fn emit_cells(columns: &[u64; 513], i: NodeNo, rule: u8, s: Names, entries: 
         return;
     }
     match binder_at(columns, i) {
-        Binder::Cell(slot, rest) => {
+        Some((slot, rest)) => {
             emit_cell(i, slot, rule, s, entries);
             emit_cells(columns, rest, rule, s, entries);
         }
-        Binder::End => {}
+        None => {}
     }
 }

@@ -15,11 +15,9 @@ ghost use Rattle.known.specs.Rows.{meant, node_of, Sound};
 
 use known::Facts;
 use marks::gathered_marks;
-use memory::{PLACE_0, PLACE_2};
 use names::Names;
-use nodes::{kind_in, lower, number_in, slot_in};
-use paper::{NameNo, NodeNo, Slot};
-use record::access::word_at;
+use paper::{Node, NodeNo, Slot};
+use record::access::node_at;
 use rows::row::facts_at;
 use slots::{binder_names, has_sigil_binder, is_sigil, slot_name};
 use together::{
@@ -33,25 +31,18 @@ pub fn leaf_facts(columns: &[u64; 513], i: NodeNo) -> Facts
     requires { Has columns.now i.0 × (Leaf ≡ parts_of (node_of columns.now i.0)) }
     ensures { meant result ≡ own (tree_of columns.now) (node_of columns.now i.0) }
 {
-    let word = word_at(columns, i);
-    let kind = kind_in(word);
-    let a = number_in(word, PLACE_0);
-    match kind {
-        0x1A => {
-            let slot = slot_in(a);
+    match node_at(columns, i) {
+        Node::Tp(slot) => {
             let own = slot_name(slot);
             let sigil = is_sigil(slot);
             timed(own, sigil)
         }
-        0x20 => {
-            let own = Names::single(NameNo(lower(a)));
+        Node::Var(x) => {
+            let own = Names::single(x);
             naming(own)
         }
-        0x1B => opaque(),
-        0x1C => opaque(),
-        0x25 => opaque(),
-        0x26 => opaque(),
-        0x2B => opaque_aggregate(),
+        Node::Call(_) | Node::SigilRef(_) | Node::ParamRef(_) | Node::BinderRef(_) => opaque(),
+        Node::AggregateCall(_) => opaque_aggregate(),
         _ => nothing(),
     }
 }
@@ -91,53 +82,40 @@ fn summed(columns: &[u64; 513], body: Facts, slot: Slot, list: NodeNo) -> Facts
 }
 
 // What is known of a node that has one part: a condition, or a list.
-pub fn over_facts(columns: &[u64; 513], rows: &[[u64; 7]], i: NodeNo, b: NodeNo) -> Facts
+pub fn over_facts(columns: &[u64; 513], rows: &[Facts], i: NodeNo, b: NodeNo) -> Facts
     requires { Has columns.now i.0 × (nodes_of (parts_of (node_of columns.now i.0)) ≡ b.0 ∷ []) × Sound columns.now rows.now (node_of columns.now i.0) }
     ensures { meant result ≡ own (tree_of columns.now) (node_of columns.now i.0) }
 {
     let body = facts_at(rows, b);
-    let word = word_at(columns, i);
-    let kind = kind_in(word);
-    let a = number_in(word, PLACE_0);
-    match kind {
-        0x12 => loose(body),
-        0x16 => {
-            let slot = slot_in(a);
-            bound(body, slot)
-        }
-        0x18 => searched(body, body.restricted),
-        0x27 => {
+    match node_at(columns, i) {
+        Node::Not(_) => loose(body),
+        Node::Exists(slot, _, _) => bound(body, slot),
+        Node::Predicate(_, _) => searched(body, body.restricted),
+        Node::Array(_) => {
             let none = Names::empty();
             searched(body, none)
         }
-        0x29 => {
-            let slot = slot_in(a);
-            let list = number_in(word, PLACE_2);
-            summed(columns, body, slot, NodeNo(list))
-        }
-        0x2A => {
-            let skipped = has_sigil_binder(columns, NodeNo(a));
-            gathered(columns, body, NodeNo(a), skipped, false)
+        Node::Sum(slot, list, _) => summed(columns, body, slot, list),
+        Node::Count(list, _) => {
+            let skipped = has_sigil_binder(columns, list);
+            gathered(columns, body, list, skipped, false)
         }
         _ => body,
     }
 }
 
 // What is known of a node that has two parts: conditions or terms, or one and a list.
-pub fn pair_facts(columns: &[u64; 513], rows: &[[u64; 7]], i: NodeNo, l: NodeNo, r: NodeNo) -> Facts
+pub fn pair_facts(columns: &[u64; 513], rows: &[Facts], i: NodeNo, l: NodeNo, r: NodeNo) -> Facts
     requires { Has columns.now i.0 × (nodes_of (parts_of (node_of columns.now i.0)) ≡ l.0 ∷ r.0 ∷ []) × Sound columns.now rows.now (node_of columns.now i.0) }
     ensures { meant result ≡ own (tree_of columns.now) (node_of columns.now i.0) }
 {
     let left = facts_at(rows, l);
     let right = facts_at(rows, r);
-    let word = word_at(columns, i);
-    let kind = kind_in(word);
-    match kind {
-        0x10 => and_facts(left, right),
-        0x11 => or_facts(left, right),
-        0x15 => since_facts(left, right),
-        0x17 => {
-            let op = lower(number_in(word, PLACE_0));
+    match node_at(columns, i) {
+        Node::And(_, _) => and_facts(left, right),
+        Node::Or(_, _) => or_facts(left, right),
+        Node::Since(_, _, _) => since_facts(left, right),
+        Node::Comparison(op, _, _) => {
             if op == 0 {
                 let side = eq_restricted_var(columns, l, r);
                 equated(side, left, right)
@@ -145,8 +123,8 @@ pub fn pair_facts(columns: &[u64; 513], rows: &[[u64; 7]], i: NodeNo, l: NodeNo,
                 compared(left, right)
             }
         }
-        0x19 => refined(left, right),
-        0x28 => arith_facts(left, right),
+        Node::Refine(_, _) => refined(left, right),
+        Node::Arith(_, _, _) => arith_facts(left, right),
         _ => join_facts(left, right),
     }
 }

@@ -7,6 +7,7 @@ ghost use Rattle.writes.specs.Written.{Room, Wrote};
 ghost use Rattle.listing.specs.Parts.{Last, part_of};
 
 use facts::collect_facts;
+use known::Facts;
 use listing::{Check, is_quiet, write_part};
 use paper::NodeNo;
 use rows::read::NotedNodes;
@@ -24,7 +25,7 @@ fn part_noted<const ROWS: usize>(
     requires room { Room (part_of check i (condition_of columns.now i.0)) 0 }
     ensures { Wrote (part_of check i (condition_of columns.now i.0)) 0 result out.old out.new }
 {
-    let mut rows = [[0u64; 7]; ROWS];
+    let mut rows = [Facts::default(); ROWS];
     collect_facts(columns, &mut rows, i);
     let nodes = NotedNodes {
         columns,

@@ -10,14 +10,14 @@ ghost use Rattle.known.specs.Known.{parts_of, nodes_of};
 ghost use Rattle.known.specs.Rows.{node_of, Right, Kept, Gathered};
 
 use derived::{leaf_facts, over_facts, pair_facts};
-use known::Parts;
+use known::{Facts, Parts};
 use paper::NodeNo;
 use parts::{cell_at, parts_at};
 use rows::row::{facts_at, put_facts};
 use together::{join_facts, nothing};
 
 // Here and below: a node's row, where the rows of its parts are right.
-fn put_leaf(columns: &[u64; 513], rows: &mut [[u64; 7]], i: NodeNo)
+fn put_leaf(columns: &[u64; 513], rows: &mut [Facts], i: NodeNo)
     requires { Has columns.now i.0 × (i.0 < length rows.old) × (Leaf ≡ parts_of (node_of columns.now i.0)) }
     ensures { Kept columns.now rows.old rows.new × Right columns.now rows.new i.0 }
 {
@@ -27,7 +27,7 @@ fn put_leaf(columns: &[u64; 513], rows: &mut [[u64; 7]], i: NodeNo)
 
 // This and the next are called from two places each, so that they stay functions of their own, and what they need is not held on the stack at every level
 // below.
-fn put_over(columns: &[u64; 513], rows: &mut [[u64; 7]], i: NodeNo, b: NodeNo)
+fn put_over(columns: &[u64; 513], rows: &mut [Facts], i: NodeNo, b: NodeNo)
     requires has { Has columns.now i.0 × (i.0 < length rows.old) × (nodes_of (parts_of (node_of columns.now i.0)) ≡ b.0 ∷ []) }
     requires all { All (Right columns.now rows.old) (nodes_of (parts_of (node_of columns.now i.0))) }
     ensures { Kept columns.now rows.old rows.new × Right columns.now rows.new i.0 }
@@ -36,7 +36,7 @@ fn put_over(columns: &[u64; 513], rows: &mut [[u64; 7]], i: NodeNo, b: NodeNo)
     put_facts(rows, i, f);
 }
 
-fn put_pair(columns: &[u64; 513], rows: &mut [[u64; 7]], i: NodeNo, l: NodeNo, r: NodeNo)
+fn put_pair(columns: &[u64; 513], rows: &mut [Facts], i: NodeNo, l: NodeNo, r: NodeNo)
     requires has { Has columns.now i.0 × (i.0 < length rows.old) × (nodes_of (parts_of (node_of columns.now i.0)) ≡ l.0 ∷ r.0 ∷ []) }
     requires all { All (Right columns.now rows.old) (nodes_of (parts_of (node_of columns.now i.0))) }
     ensures { Kept columns.now rows.old rows.new × Right columns.now rows.new i.0 }
@@ -47,30 +47,23 @@ fn put_pair(columns: &[u64; 513], rows: &mut [[u64; 7]], i: NodeNo, l: NodeNo, r
 
 // A list is gone through by a loop, so that a long one is not deep.
 #[cycle(collect_facts_collect_list)]
-fn collect_list(columns: &[u64; 513], rows: &mut [[u64; 7]], list: NodeNo)
+fn collect_list(columns: &[u64; 513], rows: &mut [Facts], list: NodeNo)
     requires { Has columns.now list.0 × (list.0 < length rows.old) × (is_row (tree_of columns.now list.0) ≡ true) }
     ensures { Gathered columns.now rows.old rows.new list.0 }
 {
     let mut at = list;
     let mut all = nothing();
-    loop {
-        match cell_at(columns, at) {
-            Parts::Then(t, rest) => {
-                collect_facts(columns, rows, t);
-                all = join_facts(all, facts_at(rows, t));
-                at = rest;
-            }
-            _ => {
-                put_facts(rows, list, all);
-                return;
-            }
-        }
+    while let Some((term, rest)) = cell_at(columns, at) {
+        collect_facts(columns, rows, term);
+        all = join_facts(all, facts_at(rows, term));
+        at = rest;
     }
+    put_facts(rows, list, all);
 }
 
 // Puts the row of a node, after those of all conditions and terms below it. Each node has one parent, so that none is looked at twice.
 #[cycle(collect_facts_collect_list)]
-pub fn collect_facts(columns: &[u64; 513], rows: &mut [[u64; 7]], i: NodeNo)
+pub fn collect_facts(columns: &[u64; 513], rows: &mut [Facts], i: NodeNo)
     requires { Has columns.now i.0 × (i.0 < length rows.old) }
     ensures { Gathered columns.now rows.old rows.new i.0 }
 {

@@ -2,11 +2,10 @@
 use mathlib.Core.Path.{◌≡◌, refl, sym, ap, ◌∙◌, subst}
 use mathlib.Core.Logic.{◌⊎◌, ⊎_elim, inl, inr}
 use mathlib.Core.Bool.{true, false, true≢false}
-use mathlib.Core.List.{List, [], ◌∷◌}
+use mathlib.Core.List.{List}
 use Prim.Native.Nat.{ℕ, ◌<◌}
-use types.Run.{OneOf, miss}
-use denote.Enum.Declared.{tag_of}
 use lib.ListN.{length}
+use Rattle.std.specs.Prelude.{Option, None, Some}
 use Rattle.paper.specs.declared.NodeNo.{NodeNo}
 use Rattle.paper.specs.declared.Node.{Node}
 use Rattle.paper.specs.declared.Node.TheVariants as node
@@ -23,7 +22,6 @@ use Rattle.trees.proofs.ByKind.{by_kind}
 use Rattle.known.specs.declared.Parts.{Parts}
 use Rattle.known.specs.declared.Parts.TheVariants as parts
 use Rattle.known.specs.declared.Facts.{Facts}
-use Rattle.known.specs.contracts.Parts.{the_type}
 use Rattle.known.specs.Known.{Known, nothing, both, join, known_of, parts_of, cell_of, nodes_of, way, from_parts, own}
 use Rattle.known.specs.Rows.{meant, Right, has_row, node_of, Put, Kept, Reaches, Gathered}
 use Rattle.known.proofs.KnownLaws.{planted_known, join_nothing, join_assoc}
@@ -71,18 +69,15 @@ cell t n (node.ArgumentCell g x l) f e = planted_known t n (node.ArgumentCell g 
 cell t n (node.ItemCell x l) f e = planted_known t n (node.ItemCell x l) f
 cell t n (node.BinderCell s y l) f e = absurd (true≢false (sym e))
 
-ended : (t : ℕ → Tree) (k : Known) (p : Parts) → Cell t k p → OneOf (0 ∷ 1 ∷ 2 ∷ 3 ∷ []) (tag_of the_type p) → (k ≡ nothing) × (nodes_of p ≡ [])
-ended t k parts.Leaf c h = (c, refl)
-ended t k (parts.One b) c h = absurd c
-ended t k (parts.Two l r) c h = absurd c
-ended t k (parts.List l) c h = absurd c
-ended t k (parts.Then x l) c h = absurd (miss (0 ∷ 1 ∷ 2 ∷ 3 ∷ []) 4 tt h)
-
 -- at a list's place a cell's term and rest are its parts, and the end has none
-cell_parts : (t : ℕ → Tree) (n : NodeNo) (m : Node) → is_row (planted t n m) ≡ true → cell_of m ≡ parts_of m
+abbrev pub cell_parts : Option (NodeNo × NodeNo) → Parts
+cell_parts None = parts.Leaf
+cell_parts (Some c) = parts.Then c.0 c.1
+
+cell_same : (t : ℕ → Tree) (n : NodeNo) (m : Node) → is_row (planted t n m) ≡ true → cell_parts (cell_of m) ≡ parts_of m
 unfolding planted is_row parts_of cell_of
-cell_parts t n =
-    by_kind (λ m. is_row (planted t n m) ≡ true → cell_of m ≡ parts_of m)
+cell_same t n =
+    by_kind (λ m. is_row (planted t n m) ≡ true → cell_parts (cell_of m) ≡ parts_of m)
     (λ l r. no_row) (λ l r. no_row) (λ b. no_row) (λ b w. no_row) (λ b w. no_row) (λ l r w. no_row) (λ s y b. no_row) (λ o l r. no_row) (λ a l. no_row)
     (λ b l. no_row) (λ s e. refl) (λ y e. refl) (λ y e. refl) (λ x e. refl) (λ e. refl) (λ y e. refl) (λ y e. refl) (λ y e. refl) (λ k e. refl) (λ k e. refl)
     (λ l. no_row) (λ o l r. no_row) (λ s l b. no_row) (λ l b. no_row) (λ y e. refl) (λ e. refl) (λ f x l e. refl) (λ x l e. refl) (λ s y l e. refl)
@@ -90,29 +85,32 @@ cell_parts t n =
     no_row : {Q : Type 0} → false ≡ true → Q
     no_row e = absurd (true≢false (sym e))
 
-pub cell_is : {columns : List ℕ} {at : ℕ} → Has columns at → is_row (tree_of columns at) ≡ true → cell_of (node_of columns at) ≡ parts_of (node_of columns at)
-cell_is {columns} {at} h r = cell_parts (tree_of columns) (node_no at) (node_of columns at) (ap is_row (sym (known_arm at h).tree) ∙ r)
+pub cell_is : {columns : List ℕ} {at : ℕ} → Has columns at → is_row (tree_of columns at) ≡ true → cell_parts (cell_of (node_of columns at)) ≡ parts_of (node_of columns at)
+cell_is {columns} {at} h r = cell_same (tree_of columns) (node_no at) (node_of columns at) (ap is_row (sym (known_arm at h).tree) ∙ r)
 
 -- ---- going along a list
 
 -- what stands before the cell at `at` is right, and `all` is what its terms have
-pub record Along (columns : List ℕ) (before rows : List (List ℕ)) (all : Known) (list at : ℕ) : Type 0 where
+pub record Along (columns : List ℕ) (before rows : List Facts) (all : Known) (list at : ℕ) : Type 0 where
   pub kept : Kept columns before rows
   pub has : Has columns at
   pub row : is_row (tree_of columns at) ≡ true
   pub joined : join all (known_of (tree_of columns at)) ≡ known_of (tree_of columns list)
   pub passed : (k : ℕ) → Reaches columns list k → has_row columns k ≡ true → Right columns rows k ⊎ Reaches columns at k
 
-pub along_start : {columns : List ℕ} {rows : List (List ℕ)} {list : ℕ} {all : Known} → all ≡ nothing → Has columns list → is_row (tree_of columns list) ≡ true
+pub along_start : {columns : List ℕ} {rows : List Facts} {list : ℕ} {all : Known} → all ≡ nothing → Has columns list → is_row (tree_of columns list) ≡ true
     → Along columns rows rows all list list
 unfolding join both nothing ◌∪◌ none
 along_start {columns} {list = list} e h r =
     record { kept = kept_same; has = h; row = r; joined = ap (λ (z : Known). join z (known_of (tree_of columns list))) e; passed = λ k s t. inr s }
 
-module _ {columns : List ℕ} {before rows : List (List ℕ)} {all : Known} {list at : ℕ} {m : Node} {p : Parts} (a : Along columns before rows all list at)
-    (is : m ≡ node_of columns at) (cell_at : p ≡ cell_of m) where
+module _ {columns : List ℕ} {before rows : List Facts} {all : Known} {list at : ℕ} {m : Node} {o : Option (NodeNo × NodeNo)} (a : Along columns before rows all list at)
+    (is : m ≡ node_of columns at) (cell_at : o ≡ cell_of m) where
+  abbrev p : Parts
+  p = cell_parts o
+
   of : p ≡ parts_of m
-  of = cell_at ∙ ap cell_of is ∙ cell_is a.has a.row ∙ ap parts_of (sym is)
+  of = ap cell_parts (cell_at ∙ ap cell_of is) ∙ cell_is a.has a.row ∙ ap parts_of (sym is)
 
   here : Cell (tree_of columns) (known_of (tree_of columns at)) p
   here =
@@ -131,9 +129,14 @@ module _ {columns : List ℕ} {before rows : List (List ℕ)} {all : Known} {lis
       reached_in Q m a.has is (subst (λ (z : Parts). All (λ j. (k : ℕ) → Reaches columns j k → has_row columns k ≡ true → Q k) (nodes_of z)) of b)
       (λ t. absurd (row_unread _ a.row t))
 
+-- what is no cell is none
+pub no_cell : {A : Type 0} (o : Option A) → ((a : A) → o ≡ Some a → ⊥) → None ≡ o
+no_cell None h = refl
+no_cell (Some a) h = absurd (h a refl)
+
 -- the next cell
-pub along_step : {columns : List ℕ} {before rows after : List (List ℕ)} {all more : Known} {list at : ℕ} {m : Node} {x rest : NodeNo}
-    → Along columns before rows all list at → m ≡ node_of columns at → parts.Then x rest ≡ cell_of m → Gathered columns rows after x.0
+pub along_step : {columns : List ℕ} {before rows after : List Facts} {all more : Known} {list at : ℕ} {m : Node} {x rest : NodeNo}
+    → Along columns before rows all list at → m ≡ node_of columns at → ◌≡◌ {A = Option (NodeNo × NodeNo)} (Some (x, rest)) (cell_of m) → Gathered columns rows after x.0
     → more ≡ join all (known_of (tree_of columns x.0)) → Along columns before after more list rest.0
 along_step {columns} {after = after} {all} {list = list} {x = x} {rest} a is of g e =
     let u = parts_held a is of in
@@ -151,12 +154,11 @@ along_step {columns} {after = after} {all} {list = list} {x = x} {rest} a is of 
     }
 
 -- the end of the list
-pub along_end : {columns : List ℕ} {before rows after : List (List ℕ)} {list at : ℕ} {m : Node} {p : Parts} {f : Facts}
-    → Along columns before rows (meant f) list at → m ≡ node_of columns at → p ≡ cell_of m → OneOf (0 ∷ 1 ∷ 2 ∷ 3 ∷ []) (tag_of the_type p)
+pub along_end : {columns : List ℕ} {before rows after : List Facts} {list at : ℕ} {m : Node} {f : Facts}
+    → Along columns before rows (meant f) list at → m ≡ node_of columns at → ◌≡◌ {A = Option (NodeNo × NodeNo)} None (cell_of m)
     → list < length rows → Put rows list f after → Gathered columns before after list
-along_end {columns} {rows = rows} {after} {list} {at} {p = p} {f} a is of h l put =
-    let done = ended (tree_of columns) (known_of (tree_of columns at)) p (here a is of) h in
-    let w = put_right put l (sym (join_nothing (meant f)) ∙ ap (join (meant f)) (sym done.0) ∙ a.joined) in
+along_end {columns} {rows = rows} {after} {list} {at} {f = f} a is of l put =
+    let w = put_right put l (sym (join_nothing (meant f)) ∙ ap (join (meant f)) (sym (here a is of)) ∙ a.joined) in
     record {
       kept = kept_then a.kept w.0;
       here = w.1;
@@ -164,5 +166,5 @@ along_end {columns} {rows = rows} {after} {list} {at} {p = p} {f} a is of h l pu
           λ k r t.
           w.0.right k
           (⊎_elim (λ (s : Right columns rows k). s)
-          (λ s. onward a is of (Right columns rows) (subst (All (λ j. (k : ℕ) → Reaches columns j k → has_row columns k ≡ true → Right columns rows k)) (sym done.1) tt) k s t) (a.passed k r t));
+          (λ s. onward a is of (Right columns rows) tt k s t) (a.passed k r t));
     }

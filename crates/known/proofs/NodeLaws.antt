@@ -37,7 +37,7 @@ module _ {columns : List ℕ} {i : ℕ} {m : Node} (h : Has columns i) (is : m �
   pub node_held : {p : Parts} → p ≡ parts_of m → Held columns i p
   node_held of = subst (Held columns i) (sym of) (held m node_arm)
 
-  pub sound : {rows : List (List ℕ)} → i < length rows → All (Right columns rows) (nodes_of (parts_of m)) → Sound columns rows m
+  pub sound : {rows : List Facts} → i < length rows → All (Right columns rows) (nodes_of (parts_of m)) → Sound columns rows m
   sound {rows} l r =
       record {
         parts = all_both (λ k. (k < i) × Has columns k) (Right columns rows) (λ k. (k < length rows) × Right columns rows k) (λ k b s. (let below = b.0 in omega (arith, below, l), s)) (nodes_of (parts_of m)) (parts_under columns i (parts_of m) (node_held refl)) r;
@@ -49,13 +49,13 @@ module _ {columns : List ℕ} {i : ℕ} {m : Node} (h : Has columns i) (is : m �
   both_had e = let u = subst (All (λ k. (k < i) × Has columns k)) e (parts_under columns i (parts_of m) (node_held refl)) in (u.0.1, u.1.0.1)
 
   -- its own facts are those of its tree
-  pub own_put : {before after : List (List ℕ)} {f : Facts} → meant f ≡ own (tree_of columns) m → i < length before → Put before i f after → Kept columns before after × Right columns after i
+  pub own_put : {before after : List Facts} {f : Facts} → meant f ≡ own (tree_of columns) m → i < length before → Put before i f after → Kept columns before after × Right columns after i
   own_put e l put =
       put_right put l
       (e
       ∙ sym (ap known_of node_arm.tree ∙ planted_known (tree_of columns) (node_no i) m (all_map (λ q (c : Child columns i q.0 q.1). c.fits) (references m) node_arm.children)))
 
-module _ {columns : List ℕ} {rows : List (List ℕ)} {m : Node} where
+module _ {columns : List ℕ} {rows : List Facts} {m : Node} where
   pub sound_is : {n : Node} → m ≡ n → Sound columns rows m → Sound columns rows n
   sound_is e s = subst (Sound columns rows) e s
 
@@ -70,7 +70,7 @@ module _ {columns : List ℕ} {rows : List (List ℕ)} {m : Node} where
 
 -- ---- the calls on the parts
 
-pub room : {columns : List ℕ} {before after : List (List ℕ)} {i : ℕ} → Kept columns before after → i < length before → i < length after
+pub room : {columns : List ℕ} {before after : List Facts} {i : ℕ} → Kept columns before after → i < length before → i < length after
 room k l = let e = k.long in omega (arith, e, l)
 
 -- what a call on a part asks for, where the caller's node is t and there are n rows
@@ -84,25 +84,25 @@ call_list (b, h) r e l = (omega (arith, b, e), (h, omega (arith, b, l), r))
 -- ---- after them
 
 -- a part whose row is right, and so are those below it
-abbrev pub Done : List ℕ → List (List ℕ) → ℕ → Type 0
+abbrev pub Done : List ℕ → List Facts → ℕ → Type 0
 Done columns rows j = Right columns rows j × ((k : ℕ) → Reaches columns j k → has_row columns k ≡ true → Right columns rows k)
 
-pub record Came (columns : List ℕ) (before rows : List (List ℕ)) (m : Node) : Type 0 where
+pub record Came (columns : List ℕ) (before rows : List Facts) (m : Node) : Type 0 where
   pub kept : Kept columns before rows
   pub parts : All (Done columns rows) (nodes_of (parts_of m))
 
-module _ {columns : List ℕ} {before : List (List ℕ)} {m : Node} {p : Parts} (of : p ≡ parts_of m) where
+module _ {columns : List ℕ} {before : List Facts} {m : Node} {p : Parts} (of : p ≡ parts_of m) where
   pub came_none : nodes_of p ≡ [] → Came columns before before m
   came_none e = record { kept = kept_same; parts = subst (λ (z : Parts). All (Done columns before) (nodes_of z)) of (subst (All (Done columns before)) (sym e) tt) }
 
-  pub came_one : {after : List (List ℕ)} {b : ℕ} → nodes_of p ≡ b ∷ [] → Gathered columns before after b → Came columns before after m
+  pub came_one : {after : List Facts} {b : ℕ} → nodes_of p ≡ b ∷ [] → Gathered columns before after b → Came columns before after m
   came_one {after} e g =
       record {
         kept = g.kept;
         parts = subst (λ (z : Parts). All (Done columns after) (nodes_of z)) of (subst (All (Done columns after)) (sym e) ((g.here, g.below), tt));
       }
 
-  pub came_two : {between after : List (List ℕ)} {l r : ℕ} → nodes_of p ≡ l ∷ r ∷ [] → Gathered columns before between l → Gathered columns between after r → Came columns before after m
+  pub came_two : {between after : List Facts} {l r : ℕ} → nodes_of p ≡ l ∷ r ∷ [] → Gathered columns before between l → Gathered columns between after r → Came columns before after m
   came_two {after = after} e f g =
       let k = gathered_kept f g.kept in
       record {
@@ -110,15 +110,15 @@ module _ {columns : List ℕ} {before : List (List ℕ)} {m : Node} {p : Parts} 
         parts = subst (λ (z : Parts). All (Done columns after) (nodes_of z)) of (subst (All (Done columns after)) (sym e) ((k.here, k.below), ((g.here, g.below), tt)));
       }
 
-came_right : {columns : List ℕ} {before rows : List (List ℕ)} {m : Node} → Came columns before rows m → All (Right columns rows) (nodes_of (parts_of m))
+came_right : {columns : List ℕ} {before rows : List Facts} {m : Node} → Came columns before rows m → All (Right columns rows) (nodes_of (parts_of m))
 came_right {columns} {rows = rows} {m} c = all_map (λ k (d : Done columns rows k). d.0) (nodes_of (parts_of m)) c.parts
 
 -- what the store of the node's row asks for
-pub ready : {columns : List ℕ} {before rows : List (List ℕ)} {i : ℕ} {m : Node} {p : Parts} → Has columns i → i < length before → p ≡ parts_of m → Came columns before rows m
+pub ready : {columns : List ℕ} {before rows : List Facts} {i : ℕ} {m : Node} {p : Parts} → Has columns i → i < length before → p ≡ parts_of m → Came columns before rows m
     → (Has columns i × (i < length rows) × (nodes_of (parts_of m) ≡ nodes_of p)) × All (Right columns rows) (nodes_of (parts_of m))
 ready h l of c = ((h, room c.kept l, ap nodes_of (sym of)), came_right c)
 
-pub finished : {columns : List ℕ} {before rows after : List (List ℕ)} {i : ℕ} {m : Node} → Has columns i → m ≡ node_of columns i → Came columns before rows m
+pub finished : {columns : List ℕ} {before rows after : List Facts} {i : ℕ} {m : Node} → Has columns i → m ≡ node_of columns i → Came columns before rows m
     → Kept columns rows after × Right columns after i → Gathered columns before after i
 finished {columns} {rows = rows} {after} {m = m} h is c (k, r) =
     record {

@@ -1,18 +1,18 @@
--- How the facts of a node come from those of its parts, by the number that is its kind: in an arm of a match that names the kind, and for the kinds that it does not
--- name. Assumes nothing.
+-- How the facts of a node come from those of its parts: in an arm of a match that names the kind, and for the kinds that it does not name. Assumes nothing.
 use mathlib.Core.Path.{◌≡◌, refl, sym, ap, ◌∙◌, subst}
 use mathlib.Core.Bool.{Bool, true, false, true≢false}
 use mathlib.Core.List.{List, [], ◌∷◌}
 use Prim.Native.Nat.{ℕ, ◌<◌}
+use types.Run.{OneOf, miss}
+use denote.Enum.Declared.{tag_of}
 use lib.ListN.{get_or}
+use Rattle.paper.specs.contracts.Node.{the_type as node_type}
 use Rattle.paper.specs.declared.Node.{Node}
 use Rattle.paper.specs.Shape.{names_in}
 use Rattle.paper.specs.Tree.{Tree}
 use Rattle.paper.proofs.Walks.{All}
-use Rattle.memory.specs.Columns.{node_told}
-use Rattle.memory.proofs.Unnamed.{Away, Rest, rest_away, by_number}
 use Rattle.record.specs.Stored.{Has}
-pub use Rattle.record.proofs.StoredLaws.{said}
+use Rattle.trees.proofs.ByKind.{by_kind}
 use Rattle.known.specs.declared.Parts.{Parts}
 use Rattle.known.specs.declared.Parts.TheVariants.{Leaf, One, Two, List as Listed, Then}
 use Rattle.known.specs.Known.{Known, known_of, nothing, join, parts_of, nodes_of, Way, alone, over, between, way, from_parts, own}
@@ -73,42 +73,66 @@ is_leaf (Two l r) = false
 is_leaf (Listed l) = false
 is_leaf (Then b l) = false
 
-abbrev pub leaf_kinds : List ℕ
-leaf_kinds = 0x1A ∷ 0x20 ∷ 0x1B ∷ 0x1C ∷ 0x25 ∷ 0x26 ∷ 0x2B ∷ []
+abbrev pub leaf_others : List ℕ
+leaf_others =
+    0 ∷ 1 ∷ 2 ∷ 3 ∷ 4 ∷ 5 ∷ 6 ∷ 7 ∷ 8 ∷ 9 ∷ 14 ∷ 15 ∷ 16 ∷ 17 ∷ 20 ∷ 21 ∷ 22 ∷ 23 ∷ 25 ∷ 26 ∷ 27 ∷ 28 ∷ []
 
-pub other_leaf : (t : ℕ → Tree) (k : ℕ) (ps : List ℕ) → Rest leaf_kinds k (Unit {0}) → Leaf ≡ parts_of (node_told k ps)
-    → way t (node_told k ps) ≡ alone nothing
-unfolding node_told parts_of way Away is_leaf
-other_leaf t k ps rest =
-    by_number (λ m. Leaf ≡ parts_of m → way t m ≡ alone nothing) leaf_kinds k ps
-    ((λ a q. absurd (true≢false (ap is_leaf q))), ((λ a q. absurd (true≢false (ap is_leaf q))), ((λ a q. absurd (true≢false (ap is_leaf q))), ((λ a q. absurd (true≢false (ap is_leaf q))), ((λ a q. absurd (true≢false (ap is_leaf q))), ((λ a q. absurd (true≢false (ap is_leaf q))), ((λ a q. absurd (true≢false (ap is_leaf q))), ((λ a q. absurd (true≢false (ap is_leaf q))), ((λ a q. absurd (true≢false (ap is_leaf q))), ((λ a q. absurd (true≢false (ap is_leaf q))), ((λ a q. absurd (a.0 refl)), ((λ a q. absurd (a.1.1.0 refl)), ((λ a q. absurd (a.1.1.1.0 refl)), ((λ a q. absurd (a.1.0 refl)), ((λ a q. refl), ((λ a q. refl), ((λ a q. refl), ((λ a q. refl), ((λ a q. absurd (a.1.1.1.1.0 refl)), ((λ a q. absurd (a.1.1.1.1.1.0 refl)), ((λ a q. absurd (true≢false (ap is_leaf q))), ((λ a q. absurd (true≢false (ap is_leaf q))), ((λ a q. absurd (true≢false (ap is_leaf q))), ((λ a q. absurd (true≢false (ap is_leaf q))), ((λ a q. absurd (a.1.1.1.1.1.1.0 refl)), ((λ a q. absurd (true≢false (ap is_leaf q))), ((λ a q. absurd (true≢false (ap is_leaf q))), ((λ a q. refl), tt))))))))))))))))))))))))))))
-    (λ q. refl)
-    (rest_away leaf_kinds k (Unit {0}) rest).1
+pub other_leaf : (t : ℕ → Tree) (m : Node) → OneOf leaf_others (tag_of node_type m) → Leaf ≡ parts_of m → way t m ≡ alone nothing
+unfolding parts_of way is_leaf
+other_leaf t =
+    by_kind (λ m. OneOf leaf_others (tag_of node_type m) → Leaf ≡ parts_of m → way t m ≡ alone nothing)
+    (λ l r h q. absurd (true≢false (ap is_leaf q))) (λ l r h q. absurd (true≢false (ap is_leaf q))) (λ b h q. absurd (true≢false (ap is_leaf q)))
+    (λ b w h q. absurd (true≢false (ap is_leaf q))) (λ b w h q. absurd (true≢false (ap is_leaf q))) (λ l r w h q. absurd (true≢false (ap is_leaf q)))
+    (λ s y b h q. absurd (true≢false (ap is_leaf q))) (λ o l r h q. absurd (true≢false (ap is_leaf q)))
+    (λ a l h q. absurd (true≢false (ap is_leaf q))) (λ b l h q. absurd (true≢false (ap is_leaf q))) (λ s h q. absurd (miss leaf_others 10 tt h))
+    (λ y h q. absurd (miss leaf_others 11 tt h)) (λ y h q. absurd (miss leaf_others 12 tt h)) (λ x h q. absurd (miss leaf_others 13 tt h))
+    (λ h q. refl) (λ y h q. refl) (λ y h q. refl) (λ y h q. refl) (λ k h q. absurd (miss leaf_others 18 tt h))
+    (λ k h q. absurd (miss leaf_others 19 tt h)) (λ l h q. absurd (true≢false (ap is_leaf q))) (λ o l r h q. absurd (true≢false (ap is_leaf q)))
+    (λ s l b h q. absurd (true≢false (ap is_leaf q))) (λ l b h q. absurd (true≢false (ap is_leaf q))) (λ y h q. absurd (miss leaf_others 24 tt h))
+    (λ h q. refl) (λ f x l h q. absurd (true≢false (ap is_leaf q))) (λ x l h q. absurd (true≢false (ap is_leaf q))) (λ s y l h q. refl)
 
--- a kind that has another number of parts
-other_parts : {A Q : Type 0} → A → false ≡ true → Q
-other_parts a q = absurd (true≢false (sym q))
+abbrev pub over_others : List ℕ
+over_others =
+    0 ∷ 1 ∷ 3 ∷ 4 ∷ 5 ∷ 7 ∷ 9 ∷ 10 ∷ 11 ∷ 12 ∷ 13 ∷ 14 ∷ 15 ∷ 16 ∷ 17 ∷ 18 ∷ 19 ∷ 21 ∷ 24 ∷ 25 ∷ 26 ∷ 27 ∷ 28 ∷ []
 
-abbrev pub over_kinds : List ℕ
-over_kinds = 0x12 ∷ 0x16 ∷ 0x18 ∷ 0x27 ∷ 0x29 ∷ 0x2A ∷ []
+over_way : (t : ℕ → Tree) (m : Node) → OneOf over_others (tag_of node_type m) → one? (nodes_of (parts_of m)) ≡ true → way t m ≡ over (λ a. a)
+unfolding parts_of way one?
+over_way t =
+    by_kind (λ m. OneOf over_others (tag_of node_type m) → one? (nodes_of (parts_of m)) ≡ true → way t m ≡ over (λ a. a))
+    (λ l r h q. absurd (true≢false (sym q))) (λ l r h q. absurd (true≢false (sym q))) (λ b h q. absurd (miss over_others 2 tt h)) (λ b w h q. refl)
+    (λ b w h q. refl) (λ l r w h q. absurd (true≢false (sym q))) (λ s y b h q. absurd (miss over_others 6 tt h))
+    (λ o l r h q. absurd (true≢false (sym q))) (λ a l h q. absurd (miss over_others 8 tt h)) (λ b l h q. absurd (true≢false (sym q)))
+    (λ s h q. absurd (true≢false (sym q))) (λ y h q. absurd (true≢false (sym q))) (λ y h q. absurd (true≢false (sym q)))
+    (λ x h q. absurd (true≢false (sym q))) (λ h q. absurd (true≢false (sym q))) (λ y h q. absurd (true≢false (sym q)))
+    (λ y h q. absurd (true≢false (sym q))) (λ y h q. absurd (true≢false (sym q))) (λ k h q. absurd (true≢false (sym q)))
+    (λ k h q. absurd (true≢false (sym q))) (λ l h q. absurd (miss over_others 20 tt h)) (λ o l r h q. absurd (true≢false (sym q)))
+    (λ s l b h q. absurd (miss over_others 22 tt h)) (λ l b h q. absurd (miss over_others 23 tt h)) (λ y h q. absurd (true≢false (sym q)))
+    (λ h q. absurd (true≢false (sym q))) (λ f x l h q. absurd (true≢false (sym q))) (λ x l h q. absurd (true≢false (sym q)))
+    (λ s y l h q. absurd (true≢false (sym q)))
 
-pub other_over : (t : ℕ → Tree) (k : ℕ) (ps : List ℕ) {b : ℕ} → Rest over_kinds k (Unit {0}) → nodes_of (parts_of (node_told k ps)) ≡ b ∷ []
-    → way t (node_told k ps) ≡ over (λ a. a)
-unfolding node_told parts_of way Away one?
-other_over t k ps rest p =
-    by_number (λ m. one? (nodes_of (parts_of m)) ≡ true → way t m ≡ over (λ a. a)) over_kinds k ps
-    (other_parts, (other_parts, ((λ a q. absurd (a.0 refl)), ((λ a q. refl), ((λ a q. refl), (other_parts, ((λ a q. absurd (a.1.0 refl)), (other_parts, ((λ a q. absurd (a.1.1.0 refl)), (other_parts, (other_parts, (other_parts, (other_parts, (other_parts, (other_parts, (other_parts, (other_parts, (other_parts, (other_parts, (other_parts, ((λ a q. absurd (a.1.1.1.0 refl)), (other_parts, ((λ a q. absurd (a.1.1.1.1.0 refl)), ((λ a q. absurd (a.1.1.1.1.1.0 refl)), (other_parts, (other_parts, (other_parts, (other_parts, tt))))))))))))))))))))))))))))
-    (λ q. absurd (true≢false (sym q)))
-    (rest_away over_kinds k (Unit {0}) rest).1 (ap one? p)
+abbrev pub pair_others : List ℕ
+pair_others =
+    2 ∷ 3 ∷ 4 ∷ 6 ∷ 8 ∷ 10 ∷ 11 ∷ 12 ∷ 13 ∷ 14 ∷ 15 ∷ 16 ∷ 17 ∷ 18 ∷ 19 ∷ 20 ∷ 22 ∷ 23 ∷ 24 ∷ 25 ∷ 26 ∷ 27 ∷ 28 ∷ []
 
-abbrev pub pair_kinds : List ℕ
-pair_kinds = 0x10 ∷ 0x11 ∷ 0x15 ∷ 0x17 ∷ 0x19 ∷ 0x28 ∷ []
+pair_way : (t : ℕ → Tree) (m : Node) → OneOf pair_others (tag_of node_type m) → two? (nodes_of (parts_of m)) ≡ true → way t m ≡ between join
+unfolding parts_of way two?
+pair_way t =
+    by_kind (λ m. OneOf pair_others (tag_of node_type m) → two? (nodes_of (parts_of m)) ≡ true → way t m ≡ between join)
+    (λ l r h q. absurd (miss pair_others 0 tt h)) (λ l r h q. absurd (miss pair_others 1 tt h)) (λ b h q. absurd (true≢false (sym q)))
+    (λ b w h q. absurd (true≢false (sym q))) (λ b w h q. absurd (true≢false (sym q))) (λ l r w h q. absurd (miss pair_others 5 tt h))
+    (λ s y b h q. absurd (true≢false (sym q))) (λ o l r h q. absurd (miss pair_others 7 tt h)) (λ a l h q. absurd (true≢false (sym q)))
+    (λ b l h q. absurd (miss pair_others 9 tt h)) (λ s h q. absurd (true≢false (sym q))) (λ y h q. absurd (true≢false (sym q)))
+    (λ y h q. absurd (true≢false (sym q))) (λ x h q. absurd (true≢false (sym q))) (λ h q. absurd (true≢false (sym q)))
+    (λ y h q. absurd (true≢false (sym q))) (λ y h q. absurd (true≢false (sym q))) (λ y h q. absurd (true≢false (sym q)))
+    (λ k h q. absurd (true≢false (sym q))) (λ k h q. absurd (true≢false (sym q))) (λ l h q. absurd (true≢false (sym q)))
+    (λ o l r h q. absurd (miss pair_others 21 tt h)) (λ s l b h q. absurd (true≢false (sym q))) (λ l b h q. absurd (true≢false (sym q)))
+    (λ y h q. absurd (true≢false (sym q))) (λ h q. absurd (true≢false (sym q))) (λ f x l h q. refl) (λ x l h q. refl)
+    (λ s y l h q. absurd (true≢false (sym q)))
 
-pub other_pair : (t : ℕ → Tree) (k : ℕ) (ps : List ℕ) {a b : ℕ} → Rest pair_kinds k (Unit {0}) → nodes_of (parts_of (node_told k ps)) ≡ a ∷ b ∷ []
-    → way t (node_told k ps) ≡ between join
-unfolding node_told parts_of way Away two?
-other_pair t k ps rest p =
-    by_number (λ m. two? (nodes_of (parts_of m)) ≡ true → way t m ≡ between join) pair_kinds k ps
-    ((λ a q. absurd (a.0 refl)), ((λ a q. absurd (a.1.0 refl)), (other_parts, (other_parts, (other_parts, ((λ a q. absurd (a.1.1.0 refl)), (other_parts, ((λ a q. absurd (a.1.1.1.0 refl)), (other_parts, ((λ a q. absurd (a.1.1.1.1.0 refl)), (other_parts, (other_parts, (other_parts, (other_parts, (other_parts, (other_parts, (other_parts, (other_parts, (other_parts, (other_parts, (other_parts, ((λ a q. absurd (a.1.1.1.1.1.0 refl)), (other_parts, (other_parts, (other_parts, ((λ a q. refl), ((λ a q. refl), (other_parts, tt))))))))))))))))))))))))))))
-    (λ q. absurd (true≢false (sym q)))
-    (rest_away pair_kinds k (Unit {0}) rest).1 (ap two? p)
+pub other_over : (t : ℕ → Tree) (m : Node) {b : ℕ} → OneOf over_others (tag_of node_type m) → nodes_of (parts_of m) ≡ b ∷ [] → way t m ≡ over (λ a. a)
+unfolding one?
+other_over t m h p = over_way t m h (ap one? p)
+
+pub other_pair : (t : ℕ → Tree) (m : Node) {a b : ℕ} → OneOf pair_others (tag_of node_type m) → nodes_of (parts_of m) ≡ a ∷ b ∷ [] → way t m ≡ between join
+unfolding two?
+other_pair t m h p = pair_way t m h (ap two? p)

@@ -1,6 +1,6 @@
 -- What is known of a node: facts of its tree, in the paper's words and in those of `Needs`, and how those of a node follow from those of its parts. Assumes nothing:
 -- these are definitions.
-use Rattle.std.specs.Prelude.{ℕ, [], ◌∷◌, Bool, true, false, not, ◌||◌, ◌&&◌}
+use Rattle.std.specs.Prelude.{ℕ, Option, None, Some, [], ◌∷◌, Bool, true, false, not, ◌||◌, ◌&&◌}
 use mathlib.Core.List as L
 use Rattle.paper.specs.declared.NodeNo.{NodeNo}
 use Rattle.paper.specs.declared.Node.{Node}
@@ -199,37 +199,37 @@ parts_of (node.ArgumentCell f x l) = Then x l
 parts_of (node.ItemCell x l) = Then x l
 parts_of (node.BinderCell s y l) = Leaf
 
--- the term and the rest of a list's cell: at a place of a list these are all its parts
-unfoldable pub cell_of : Node → Parts
-cell_of (node.And l r) = Leaf
-cell_of (node.Or l r) = Leaf
-cell_of (node.Not b) = Leaf
-cell_of (node.Formerly b w) = Leaf
-cell_of (node.Previous b w) = Leaf
-cell_of (node.Since l r w) = Leaf
-cell_of (node.Exists s y b) = Leaf
-cell_of (node.Comparison o l r) = Leaf
-cell_of (node.Predicate a l) = Leaf
-cell_of (node.Refine b l) = Leaf
-cell_of (node.Tp s) = Leaf
-cell_of (node.Call y) = Leaf
-cell_of (node.SigilRef y) = Leaf
-cell_of (node.Var x) = Leaf
-cell_of node.Wildcard = Leaf
-cell_of (node.Literal y) = Leaf
-cell_of (node.ScopeField y) = Leaf
-cell_of (node.ContextField y) = Leaf
-cell_of (node.ParamRef k) = Leaf
-cell_of (node.BinderRef k) = Leaf
-cell_of (node.Array l) = Leaf
-cell_of (node.Arith o l r) = Leaf
-cell_of (node.Sum s l b) = Leaf
-cell_of (node.Count l b) = Leaf
-cell_of (node.AggregateCall y) = Leaf
-cell_of node.ListEnd = Leaf
-cell_of (node.ArgumentCell f x l) = Then x l
-cell_of (node.ItemCell x l) = Then x l
-cell_of (node.BinderCell s y l) = Leaf
+-- the term and the rest of a list's cell, if there is one: at a place of a list these are all its parts
+unfoldable pub cell_of : Node → Option (NodeNo × NodeNo)
+cell_of (node.And l r) = None
+cell_of (node.Or l r) = None
+cell_of (node.Not b) = None
+cell_of (node.Formerly b w) = None
+cell_of (node.Previous b w) = None
+cell_of (node.Since l r w) = None
+cell_of (node.Exists s y b) = None
+cell_of (node.Comparison o l r) = None
+cell_of (node.Predicate a l) = None
+cell_of (node.Refine b l) = None
+cell_of (node.Tp s) = None
+cell_of (node.Call y) = None
+cell_of (node.SigilRef y) = None
+cell_of (node.Var x) = None
+cell_of node.Wildcard = None
+cell_of (node.Literal y) = None
+cell_of (node.ScopeField y) = None
+cell_of (node.ContextField y) = None
+cell_of (node.ParamRef k) = None
+cell_of (node.BinderRef k) = None
+cell_of (node.Array l) = None
+cell_of (node.Arith o l r) = None
+cell_of (node.Sum s l b) = None
+cell_of (node.Count l b) = None
+cell_of (node.AggregateCall y) = None
+cell_of node.ListEnd = None
+cell_of (node.ArgumentCell f x l) = Some (x, l)
+cell_of (node.ItemCell x l) = Some (x, l)
+cell_of (node.BinderCell s y l) = None
 
 abbrev pub nodes_of : Parts → L.List ℕ
 nodes_of Leaf = []

@@ -1,6 +1,6 @@
 -- When a row holds what is known of its node, when rows do for all nodes, and how they are changed. Assumes nothing: these are definitions.
 use Rattle.std.specs.Prelude.{◌≡◌, ℕ, ◌<◌, ◌≤◌, Bool, true, ◌||◌, length, get_or, set}
-use mathlib.Core.List.{List, [], Memᴰ}
+use mathlib.Core.List.{List, Memᴰ}
 use Rattle.paper.specs.declared.Node.{Node}
 use Rattle.paper.specs.declared.Node.TheVariants.{ListEnd}
 use Rattle.paper.specs.Record.{Sort}
@@ -36,47 +36,39 @@ pub record Marked (word : ℕ) (sigil hard broken binds unclosed computed : Bool
   pub unclosings : bit word 4 ≡ unclosed
   pub computings : bit word 5 ≡ computed
 
--- the facts in a row: two words for each set, and one of marks
-unfoldable pub facts_in : List ℕ → Facts
-facts_in row =
-    record {
-      free = record { lo = get_or row 0 0; hi = get_or row 1 0 };
-      restricted = record { lo = get_or row 2 0; hi = get_or row 3 0 };
-      need = record { lo = get_or row 4 0; hi = get_or row 5 0 };
-      marks = get_or row 6 0;
-    }
+-- the facts of a row that is not there
+abbrev pub no_facts : Facts
+no_facts = record { free = record { lo = 0; hi = 0 }; restricted = record { lo = 0; hi = 0 }; need = record { lo = 0; hi = 0 }; marks = 0 }
 
-abbrev pub facts_at : List (List ℕ) → ℕ → Facts
-facts_at rows k = facts_in (get_or rows k [])
+abbrev pub facts_at : List Facts → ℕ → Facts
+facts_at rows k = get_or rows k no_facts
 
 -- row k holds what is known of node k
-pub record Right (columns : List ℕ) (rows : List (List ℕ)) (k : ℕ) : Type 0 where
+pub record Right (columns : List ℕ) (rows : List Facts) (k : ℕ) : Type 0 where
   pub holds : meant (facts_at rows k) ≡ known_of (tree_of columns k)
 
 -- conditions and terms have rows that are read; the cells of lists have none
 abbrev pub has_row : List ℕ → ℕ → Bool
 has_row columns k = is_condition (tree_of columns k) || is_term (tree_of columns k)
 
-pub record Noted (columns : List ℕ) (rows : List (List ℕ)) : Type 0 where
+pub record Noted (columns : List ℕ) (rows : List Facts) : Type 0 where
   pub fits : length (held columns) ≤ length rows
   pub row : (k : ℕ) → k < length (held columns) → has_row columns k ≡ true → Right columns rows k
 
 -- what the facts of a node m are found from: the rows of its parts, names of the table, and nodes that the columns hold
-pub record Sound (columns : List ℕ) (rows : List (List ℕ)) (m : Node) : Type 0 where
+pub record Sound (columns : List ℕ) (rows : List Facts) (m : Node) : Type 0 where
   pub parts : All (λ k. (k < length rows) × Right columns rows k) (nodes_of (parts_of m))
   pub has : All (λ q. Has columns q.1) (references m)
   pub tabled : All (λ x. x < 128) (names_in m)
 
 -- ---- what a call on a node does to the rows
 
--- row i alone is changed, and holds these facts
-pub record Put (before : List (List ℕ)) (i : ℕ) (f : Facts) (after : List (List ℕ)) : Type 0 where
-  pub row : List ℕ
-  pub holds : facts_in row ≡ f
-  pub there : after ≡ set before i row
+-- row i alone is changed, and is these facts
+pub record Put (before : List Facts) (i : ℕ) (f : Facts) (after : List Facts) : Type 0 where
+  pub there : after ≡ set before i f
 
 -- what was right stays right
-pub record Kept (columns : List ℕ) (before after : List (List ℕ)) : Type 0 where
+pub record Kept (columns : List ℕ) (before after : List Facts) : Type 0 where
   pub long : length after ≡ length before
   pub right : (k : ℕ) → Right columns before k → Right columns after k
 
@@ -93,7 +85,7 @@ pub data Reaches (columns : List ℕ) : ℕ → ℕ → Type 0 where
   by : {i j k : ℕ} → Refers columns i j → Reaches columns j k → Reaches columns i k
 
 -- the rows of node i and of all conditions and terms below it are right, and none was spoilt
-pub record Gathered (columns : List ℕ) (before after : List (List ℕ)) (i : ℕ) : Type 0 where
+pub record Gathered (columns : List ℕ) (before after : List Facts) (i : ℕ) : Type 0 where
   pub kept : Kept columns before after
   pub here : Right columns after i
   pub below : (k : ℕ) → Reaches columns i k → has_row columns k ≡ true → Right columns after k

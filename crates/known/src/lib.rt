@@ -17,7 +17,7 @@ pub const UNCLOSED: u64 = 16;
 
 pub const COMPUTED: u64 = 32;
 
-#[derive(Clone, Copy)]
+#[derive(Clone, Copy, Default)]
 pub struct Facts {
     pub free: Names,
     pub restricted: Names,

@@ -23,6 +23,7 @@ use Rattle.record.specs.Stored.{Has}
 use Rattle.record.proofs.StoredLaws.{few}
 use Rattle.trees.specs.Trees.{tree_of, is_condition}
 use Rattle.trees.proofs.Arms.{last_body}
+use Rattle.known.specs.declared.Facts.{Facts}
 use Rattle.known.specs.Needs.{has_none, met, sound}
 use Rattle.known.specs.Known.{known_of}
 use Rattle.known.specs.Rows.{Gathered, Noted}
@@ -91,7 +92,7 @@ module _ (t : Tree) (n : NodeNo) (is : is_condition t ≡ true) where
       )
 
 -- what a walk from the last node asks for, where the rows were gathered from there
-pub from_last : {columns : List ℕ} {before after : List (List ℕ)} {i : ℕ} → Last columns i × (i < length before) → Gathered columns before after i
+pub from_last : {columns : List ℕ} {before after : List Facts} {i : ℕ} → Last columns i × (i < length before) → Gathered columns before after i
     → Has columns i × Noted columns after × (is_condition (tree_of columns i) ≡ true)
 from_last p g = let l = p.0 in (l.has, all_noted l.has.0 g l.all p.1, last_body l.has l.all)
 

@@ -72,7 +72,8 @@ pub fn numbers_in(word: u64) -> Numbers
     }
 }
 
-// The node that these numbers say.
+// The node that these numbers say. Inlined, so that the match of whoever asks is joined with this one, and no node is made to be taken apart again.
+#[inline(always)]
 pub fn node_of(n: Numbers) -> Node
     ensures { result ≡ told_by n }
 {

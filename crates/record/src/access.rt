@@ -26,6 +26,8 @@ pub fn numbers_at(columns: &[u64; 513], i: NodeNo) -> Numbers
     numbers_in(word_at(columns, i))
 }
 
+// Inlined as `node_of` is.
+#[inline(always)]
 pub fn node_at(columns: &[u64; 513], i: NodeNo) -> Node
     requires { Has columns.now i.0 }
     ensures { result ≡ get_or (held columns.now) i.0 ListEnd }

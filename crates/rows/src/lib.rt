@@ -1,4 +1,4 @@
-// Rows of facts: a node's facts as seven words, and what walks read of them.
+// Rows of facts: a row for each node, and what walks read of it.
 #![tactic(auto)]
 
 pub mod read;

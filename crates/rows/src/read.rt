@@ -9,7 +9,7 @@ ghost use Rattle.known.specs.Known.{known_of};
 ghost use Rattle.known.specs.Rows.{Noted, has_row};
 
 use crate::row::facts_at;
-use known::{BINDS, BROKEN, HARD, SIGIL, UNCLOSED};
+use known::{BINDS, BROKEN, Facts, HARD, SIGIL, UNCLOSED};
 use names::Names;
 use paper::NodeNo;
 
@@ -17,7 +17,7 @@ use paper::NodeNo;
 #[derive(Clone, Copy)]
 pub struct NotedNodes<'a> {
     pub columns: &'a [u64; 513],
-    pub rows: &'a [[u64; 7]],
+    pub rows: &'a [Facts],
     pub ghost noted: { Noted columns.now rows.now },
 }
 

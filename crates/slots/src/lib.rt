@@ -1,7 +1,8 @@
-// What slots are: sigils, or names; and the names of lists of binders.
+// What slots are: sigils, or names; and the binders of an aggregate, one after the other.
 #![tactic(auto)]
 
 ghost use Rattle.std.specs.Prelude.{◌≡◌, get_or};
+ghost use Rattle.std.specs.Iterator.{YieldsFirst, item_count};
 ghost use Rattle.paper.specs.declared.Node.TheVariants.{ListEnd};
 ghost use Rattle.paper.specs.Sets.{◌∪◌, ◌∖◌};
 ghost use Rattle.paper.specs.FreeAndRestricted.{named, is_sigil, binder_names};
@@ -10,20 +11,11 @@ ghost use Rattle.names.specs.Words.{mem};
 ghost use Rattle.record.specs.Stored.{held, Has};
 ghost use Rattle.trees.specs.Trees.{binders_of};
 ghost use Rattle.trees.specs.Terms.{Tabled};
-ghost use Rattle.slots.specs.Binders.{binder_of};
+ghost use Rattle.slots.specs.Binders.{binder_of, slots_of};
 
-use memory::{PLACE_0, PLACE_3};
 use names::Names;
-use nodes::{kind_in, number_in, slot_in};
-use paper::{NodeNo, Slot};
-use record::access::word_at;
-
-// A list of binders from a node on: a cell's slot and the rest of the list, or no cell.
-#[derive(Clone, Copy)]
-pub enum Binder {
-    Cell(Slot, NodeNo),
-    End,
-}
+use paper::{Node, NodeNo, Slot};
+use record::access::node_at;
 
 pub fn is_sigil(slot: Slot) -> bool
     ensures { result ≡ is_sigil slot }
@@ -63,18 +55,38 @@ pub fn without_slot(others: Names, slot: Slot) -> Names
     others - name
 }
 
-// The word of a cell is asked for these two alone: no node is made of it, to be taken apart again.
-pub fn binder_at(columns: &[u64; 513], i: NodeNo) -> Binder
+// The slot of a cell and the rest of its list, if there is a cell.
+#[tactic(auto, unfolding(crate::specs::Binders::binder_of))]
+pub fn binder_at(columns: &[u64; 513], i: NodeNo) -> Option<(Slot, NodeNo)>
     requires { Has columns.now i.0 }
     ensures { result ≡ binder_of (get_or (held columns.now) i.0 ListEnd) }
 {
-    let word = word_at(columns, i);
-    match kind_in(word) {
-        0x33 => {
-            let slot = slot_in(number_in(word, PLACE_0));
-            Binder::Cell(slot, NodeNo(number_in(word, PLACE_3)))
-        }
-        _ => Binder::End,
+    match node_at(columns, i) {
+        Node::BinderCell(slot, _, rest) => Some((slot, rest)),
+        _ => None,
+    }
+}
+
+// The slots of an aggregate's binders, from a cell of their list on.
+#[derive(Drop)]
+struct Binders<'a> {
+    columns: &'a [u64; 513],
+    at: NodeNo,
+}
+
+impl<'a> Iterator for Binders<'a> {
+    type Item = Slot;
+
+    ghost can_next = { λ b. Has b.columns.now b.at.0 };
+
+    ghost next_gives = { YieldsFirst (λ b. slots_of (binders_of b.columns.now b.at.0)) };
+
+    ghost remaining = { item_count (λ b. slots_of (binders_of b.columns.now b.at.0)) };
+
+    fn next(&mut self) -> Option<Slot> {
+        let (slot, rest) = binder_at(self.columns, self.at)?;
+        self.at = rest;
+        Some(slot)
     }
 }
 
@@ -83,10 +95,7 @@ pub fn has_sigil_binder(columns: &[u64; 513], i: NodeNo) -> bool
     requires { Has columns.now i.0 }
     ensures { result ≡ binder_sigil (binders_of columns.now i.0) }
 {
-    match binder_at(columns, i) {
-        Binder::Cell(slot, rest) => is_sigil(slot) || has_sigil_binder(columns, rest),
-        Binder::End => false,
-    }
+    Binders { columns, at: i }.any(is_sigil)
 }
 
 // The named binders of an aggregate's list.
@@ -94,14 +103,12 @@ pub fn binder_names(columns: &[u64; 513], i: NodeNo) -> Names
     requires { Has columns.now i.0 }
     ensures { mem result ≡ binder_names (binders_of columns.now i.0) }
 {
-    match binder_at(columns, i) {
-        Binder::Cell(slot, rest) => {
-            let own = slot_name(slot);
-            let others = binder_names(columns, rest);
-            own | others
-        }
-        Binder::End => Names::empty(),
+    let mut own = Names::empty();
+    for slot in (Binders { columns, at: i }) {
+        let name = slot_name(slot);
+        own = own | name;
     }
+    own
 }
 
 // The names, and those of an aggregate's binders.

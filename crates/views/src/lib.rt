@@ -1,18 +1,14 @@
-// A node as walks see it: where they go on below it, and what it is itself. Each view is had off the node's word by its kind: a `Node` would have to be made, held
-// and copied by each who asks.
+// A node as walks see it: where they go on below it, and what it is itself.
 #![tactic(auto)]
 
 ghost use Rattle.std.specs.Prelude.{◌≡◌, get_or};
 ghost use Rattle.paper.specs.declared.Node.TheVariants.{ListEnd};
-ghost use Rattle.memory.specs.Columns.{told_by};
 ghost use Rattle.record.specs.Stored.{held, Has};
 ghost use Rattle.views.specs.Entered.{entered_below};
 ghost use Rattle.views.specs.Seen.{seen_operand, seen_itself, seen_owing};
 
-use memory::Numbers;
-use nodes::{lower, slot_in};
-use paper::{NodeNo, Slot};
-use record::access::numbers_at;
+use paper::{Node, NodeNo, Slot};
+use record::access::node_at;
 
 // Where a walk goes on below a condition.
 #[derive(Clone, Copy)]
@@ -54,91 +50,62 @@ pub enum Owing {
 }
 
 // A refinement's fields and a predicate's arguments are not entered.
-fn below_in(n: Numbers) -> Below
-    ensures { result ≡ entered_below (told_by n) }
-{
-    let kind = n.kind;
-    match kind {
-        0x10 => Below::Conditions(NodeNo(n.p0), NodeNo(n.p2)),
-        0x11 => Below::Conditions(NodeNo(n.p0), NodeNo(n.p2)),
-        0x12 => Below::Condition(NodeNo(n.p0)),
-        0x13 => Below::Condition(NodeNo(n.p0)),
-        0x14 => Below::Condition(NodeNo(n.p0)),
-        0x15 => Below::Conditions(NodeNo(n.p0), NodeNo(n.p2)),
-        0x16 => Below::Condition(NodeNo(n.p3)),
-        0x17 => Below::Operands(NodeNo(n.p1), NodeNo(n.p3)),
-        0x19 => Below::Condition(NodeNo(n.p0)),
-        _ => Below::Nothing,
-    }
-}
-
+#[tactic(auto, unfolding(crate::specs::Entered::entered_below))]
 pub fn below_at(columns: &[u64; 513], i: NodeNo) -> Below
     requires { Has columns.now i.0 }
     ensures { result ≡ entered_below (get_or (held columns.now) i.0 ListEnd) }
 {
-    below_in(numbers_at(columns, i))
-}
-
-// A Sum and a Count are one here: the slot that is summed is asked for elsewhere.
-fn operand_in(n: Numbers) -> Operand
-    ensures { result ≡ seen_operand (told_by n) }
-{
-    let kind = n.kind;
-    match kind {
-        0x27 => Operand::Array(NodeNo(n.p0)),
-        0x28 => Operand::Arith(NodeNo(n.p1), NodeNo(n.p3)),
-        0x29 => Operand::Aggregate(NodeNo(n.p2), NodeNo(n.p4)),
-        0x2A => Operand::Aggregate(NodeNo(n.p0), NodeNo(n.p2)),
-        _ => Operand::Plain,
+    match node_at(columns, i) {
+        Node::And(l, r) | Node::Or(l, r) | Node::Since(l, r, _) => Below::Conditions(l, r),
+        Node::Not(b) | Node::Formerly(b, _) | Node::Previous(b, _) => Below::Condition(b),
+        Node::Exists(_, _, b) | Node::Refine(b, _) => Below::Condition(b),
+        Node::Comparison(_, l, r) => Below::Operands(l, r),
+        _ => Below::Nothing,
     }
 }
 
+// A Sum and a Count are one here: the slot that is summed is asked for elsewhere.
+#[tactic(auto, unfolding(crate::specs::Seen::seen_operand))]
 pub fn operand_at(columns: &[u64; 513], i: NodeNo) -> Operand
     requires { Has columns.now i.0 }
     ensures { result ≡ seen_operand (get_or (held columns.now) i.0 ListEnd) }
 {
-    operand_in(numbers_at(columns, i))
-}
-
-// Any other condition has only what is found below it.
-fn itself_in(n: Numbers) -> Itself
-    ensures { result ≡ seen_itself (told_by n) }
-{
-    let kind = n.kind;
-    match kind {
-        0x16 => Itself::Exists(slot_in(n.p0), NodeNo(n.p3)),
-        0x18 => Itself::Predicate(NodeNo(n.p2)),
-        0x1A => Itself::Tp(slot_in(n.p0)),
-        _ => Itself::Other,
+    match node_at(columns, i) {
+        Node::Array(items) => Operand::Array(items),
+        Node::Arith(_, l, r) => Operand::Arith(l, r),
+        Node::Sum(_, binders, body) => Operand::Aggregate(binders, body),
+        Node::Count(binders, body) => Operand::Aggregate(binders, body),
+        _ => Operand::Plain,
     }
 }
 
+// Any other condition has only what is found below it.
+#[tactic(auto, unfolding(crate::specs::Seen::seen_itself))]
 pub fn itself_at(columns: &[u64; 513], i: NodeNo) -> Itself
     requires { Has columns.now i.0 }
     ensures { result ≡ seen_itself (get_or (held columns.now) i.0 ListEnd) }
 {
-    itself_in(numbers_at(columns, i))
-}
-
-// Any other condition owes nothing, and what is tied and asked at it is tied and asked below it.
-fn owing_in(n: Numbers) -> Owing
-    ensures { result ≡ seen_owing (told_by n) }
-{
-    let kind = n.kind;
-    match kind {
-        0x10 => Owing::And(NodeNo(n.p0)),
-        0x12 => Owing::Not(NodeNo(n.p0)),
-        0x15 => Owing::Since(NodeNo(n.p0), NodeNo(n.p2)),
-        0x16 => Owing::Exists(slot_in(n.p0)),
-        0x17 => Owing::Comparison(lower(n.p0), NodeNo(n.p1), NodeNo(n.p3)),
-        0x19 => Owing::Refine,
-        _ => Owing::Other,
+    match node_at(columns, i) {
+        Node::Exists(slot, _, body) => Itself::Exists(slot, body),
+        Node::Predicate(_, arguments) => Itself::Predicate(arguments),
+        Node::Tp(slot) => Itself::Tp(slot),
+        _ => Itself::Other,
     }
 }
 
+// Any other condition owes nothing, and what is tied and asked at it is tied and asked below it.
+#[tactic(auto, unfolding(crate::specs::Seen::seen_owing))]
 pub fn owing_at(columns: &[u64; 513], i: NodeNo) -> Owing
     requires { Has columns.now i.0 }
     ensures { result ≡ seen_owing (get_or (held columns.now) i.0 ListEnd) }
 {
-    owing_in(numbers_at(columns, i))
+    match node_at(columns, i) {
+        Node::And(l, _) => Owing::And(l),
+        Node::Not(body) => Owing::Not(body),
+        Node::Since(l, r, _) => Owing::Since(l, r),
+        Node::Exists(slot, _, _) => Owing::Exists(slot),
+        Node::Comparison(op, l, r) => Owing::Comparison(op, l, r),
+        Node::Refine(_, _) => Owing::Refine,
+        _ => Owing::Other,
+    }
 }

@@ -10,6 +10,7 @@ ghost use Rattle.writes.specs.Written.{Room, Wrote};
 ghost use Rattle.listing.specs.Parts.{Last, listed, Filled};
 
 use facts::collect_facts;
+use known::Facts;
 use listing::{is_clean, write_list};
 use names::Names;
 use paper::NodeNo;
@@ -57,7 +58,7 @@ fn list_noted<const ROWS: usize>(
     requires room { Room (listed (mem words) i (condition_of columns.now i.0)) 0 × (length (listed (mem words) i (condition_of columns.now i.0)) ≤ most) }
     ensures { Filled (listed (mem words) i (condition_of columns.now i.0)) result out.old out.new }
 {
-    let mut rows = [[0u64; 7]; ROWS];
+    let mut rows = [Facts::default(); ROWS];
     collect_facts(columns, &mut rows, i);
     let nodes = NotedNodes {
         columns,

@@ -21,11 +21,11 @@ returns-then-is_empty t c =
 
 pub emit_cell-requires : goal.emit_cell-requires
 emit_cell-requires t c =
-    room_first _ _ (room_is (ap (at _ _) (next_cell (cell_arm c.requires.has c.in-Cell.ensures refl).1) ∙ cells_append _ _ _ _) c.requires.room)
+    room_first _ _ (room_is (ap (at _ _) (next_cell (cell_arm c.requires.has c.in-Some.ensures refl).1) ∙ cells_append _ _ _ _) c.requires.room)
 
 pub emit_cells-requires : goal.emit_cells-requires
 emit_cells-requires t c =
-    let a = (cell_arm c.requires.has c.in-Cell.ensures refl).1 in
+    let a = (cell_arm c.requires.has c.in-Some.ensures refl).1 in
     let d = down a.children.0 c.decreases in (
       d.0,
       (
@@ -34,11 +34,11 @@ emit_cells-requires t c =
       ),
     )
 
-pub returns-in-Cell : goal.returns-in-Cell
-returns-in-Cell t c =
-    let a = (cell_arm c.requires.has c.in-Cell.ensures refl).1 in
+pub returns-in-Some : goal.returns-in-Some
+returns-in-Some t c =
+    let a = (cell_arm c.requires.has c.in-Some.ensures refl).1 in
     added_is (ap (at _ _) (next_cell a) ∙ cells_append _ _ _ _) (added_then c.emit_cell.ensures c.emit_cells.ensures)
 
-pub returns-in-End : goal.returns-in-End
-returns-in-End t c =
-    added_is (ap (at _ _) (at_end c.requires.has c.binder_at.ensures cells cells_end c.in-End.is) ∙ no_entry_at_no_cell _ _) added_none
+pub returns-in-None : goal.returns-in-None
+returns-in-None t c =
+    added_is (ap (at _ _) (at_end c.requires.has c.binder_at.ensures cells cells_end c.in-None.is) ∙ no_entry_at_no_cell _ _) added_none

@@ -1,11 +1,10 @@
 -- `collect_facts` and `collect_list` call each other on the nodes below.
 use Rattle.std.proofs.Common.{refl, ap, ◌∙◌, arith}
-use borrow.Enum.Refused.{opened}
 use Rattle.known.specs.Known.{join}
 use Rattle.known.specs.Rows.{meant}
 use Rattle.known.proofs.RowLaws.{read_right}
 use Rattle.known.proofs.NodeLaws.{node_held, room, call, call_list, came_none, came_one, came_two, finished}
-use Rattle.known.proofs.ListLaws.{along_start, along_step, along_end, parts_held}
+use Rattle.known.proofs.ListLaws.{along_start, along_step, along_end, no_cell, parts_held}
 use Rattle.facts.proofs.+collect_facts_collect_list.Goals as goal
 
 -- ---- a node
@@ -49,13 +48,13 @@ collect_facts-returns-in-Then t c =
 
 -- ---- a list
 
-pub collect_list-loop-t-init : goal.collect_list-loop-t-init
-collect_list-loop-t-init t c = (omega arith, along_start c.nothing-all.ensures c.requires.0 c.requires.2)
+pub collect_list-loop-term-init : goal.collect_list-loop-term-init
+collect_list-loop-term-init t c = (omega arith, along_start c.nothing-all.ensures c.requires.0 c.requires.2)
 
 pub collect_list-collect_facts-requires : goal.collect_list-collect_facts-requires
 collect_list-collect_facts-requires t c =
-    let l = c.loop-t.invariant in
-    let u = parts_held l.1 refl c.in-Then.ensures in
+    let l = c.loop-term.invariant in
+    let u = parts_held l.1 refl c.in-Some.ensures in
     let below = u.0.0 in
     let upto = l.0 in
     let e = c.decreases in
@@ -63,26 +62,26 @@ collect_list-collect_facts-requires t c =
 
 pub collect_list-facts_at-requires : goal.collect_list-facts_at-requires
 collect_list-facts_at-requires t c =
-    let l = c.loop-t.invariant in
-    let u = parts_held l.1 refl c.in-Then.ensures in
+    let l = c.loop-term.invariant in
+    let u = parts_held l.1 refl c.in-Some.ensures in
     let below = u.0.0 in
     let upto = l.0 in
     let long = room c.collect_facts.ensures.kept (room l.1.kept c.requires.1) in omega arith
 
-pub collect_list-loop-t-smaller : goal.collect_list-loop-t-smaller
-collect_list-loop-t-smaller t c = (parts_held c.loop-t.invariant.1 refl c.in-Then.ensures).1.0
+pub collect_list-loop-term-smaller : goal.collect_list-loop-term-smaller
+collect_list-loop-term-smaller t c = (parts_held c.loop-term.invariant.1 refl c.in-Some.ensures).1.0
 
-pub collect_list-loop-t-preserved : goal.collect_list-loop-t-preserved
-collect_list-loop-t-preserved t c =
-    let u = parts_held c.loop-t.invariant.1 refl c.in-Then.ensures in
+pub collect_list-loop-term-preserved : goal.collect_list-loop-term-preserved
+collect_list-loop-term-preserved t c =
+    let u = parts_held c.loop-term.invariant.1 refl c.in-Some.ensures in
     let below = u.1.0 in
-    let upto = c.loop-t.invariant.0 in
+    let upto = c.loop-term.invariant.0 in
     let g = c.collect_facts.ensures in (
       omega arith,
-      along_step c.loop-t.invariant.1 refl c.in-Then.ensures g (c.join_facts-all.ensures ∙ ap (join (meant c.loop-t.all)) (read_right c.facts_at.ensures g.here)),
+      along_step c.loop-term.invariant.1 refl c.in-Some.ensures g (c.join_facts-all.ensures ∙ ap (join (meant c.loop-term.all)) (read_right c.facts_at.ensures g.here)),
     )
 
-pub collect_list-returns-in_default : goal.collect_list-returns-in_default
-collect_list-returns-in_default t c =
-    let along = c.loop-t.invariant.1 in
-    along_end along refl c.cell_at.ensures (opened c.in_default.in_default-own.keys2) (room along.kept c.requires.1) c.put_facts.ensures
+pub collect_list-returns : goal.collect_list-returns
+collect_list-returns t c =
+    let along = c.loop-term.invariant.1 in
+    along_end along refl (no_cell _ c.in_default.not-Some ∙ c.cell_at.ensures) (room along.kept c.requires.1) c.put_facts.ensures

@@ -10,8 +10,8 @@ decreases-collect_facts l = l.i.0
 abbrev pub decreases-collect_list : goal.decreases-collect_list
 decreases-collect_list l = l.list.0
 
-abbrev pub invariant-collect_list-loop-t : goal.invariant-collect_list-loop-t
-invariant-collect_list-loop-t l = (l.at.0 ≤ l.list.0) × Along l.columns l.initial.rows l.rows (meant l.all) l.list.0 l.at.0
+abbrev pub invariant-collect_list-loop-term : goal.invariant-collect_list-loop-term
+invariant-collect_list-loop-term l = (l.at.0 ≤ l.list.0) × Along l.columns l.initial.rows l.rows (meant l.all) l.list.0 l.at.0
 
-abbrev pub decreases-collect_list-loop-t : goal.decreases-collect_list-loop-t
-decreases-collect_list-loop-t l = l.at.0
+abbrev pub decreases-collect_list-loop-term : goal.decreases-collect_list-loop-term
+decreases-collect_list-loop-term l = l.at.0
