@@ -1,9 +1,9 @@
 -- The count stays within the buffer, and the loop ends: each read that is counted brought some bytes.
-use Rattle.std.proofs.Common.{◌-◌, ◌≤◌}
-use Rattle.findings.proofs.input.read_full.Given as goal
+use Rattle.std.proofs.Common.{length, ◌-◌, ◌≤◌}
+use Rattle.reading.proofs.fill.Given as goal
 
 abbrev pub invariant-loop-count : goal.invariant-loop-count
-invariant-loop-count g l = l.count ≤ 65536
+invariant-loop-count g l = l.count ≤ length l.buffer
 
 abbrev pub decreases-loop-count : goal.decreases-loop-count
-decreases-loop-count g l = 65536 - l.count
+decreases-loop-count g l = length l.initial.buffer - l.count
