@@ -1,5 +1,5 @@
-// A node of a record by its number: what it is, and what it ties if it is an equality. As the name lookup does, each function reads the record again, which takes
-// microseconds, so that nobody has to carry where its nodes lie.
+// A node of a record by its number: what it is, and what it ties if it is an equality. As the name lookup does, each function reads the record again, which
+// takes microseconds, so that nobody has to carry where its nodes lie.
 #![tactic(auto)]
 
 ghost use Rattle.std.specs.Prelude.{◌≡◌, get_or};
