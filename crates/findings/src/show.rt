@@ -79,8 +79,7 @@ fn verdict<W: Write>(out: &mut W, record: &[u8], count: usize) -> io::Result<()>
     writeln!(out, "{}", Counted(count, "finding"))
 }
 
-pub fn listed<W: Write>(out: &mut W, record: &[u8], entries: &[u32], mode: Mode) -> io::Result<()> {
-    let bytes = record;
+pub fn listed<W: Write>(out: &mut W, bytes: &[u8], entries: &[u32], mode: Mode) -> io::Result<()> {
     let record = Record { bytes };
     match mode {
         Mode::Numbers => return numbers(out, entries),

@@ -1,5 +1,4 @@
 // The five questions, asked of a stored case.
-
 use crate::stored::{Case, Said};
 use names::empty;
 use questions::{arithmetic, closedness, demands, scoping};
