@@ -94,12 +94,10 @@ const NO_WORDS: Words = Words {
 };
 
 fn words_of(rule: u8) -> Words {
-    for line in TABLE {
-        if line.rule == rule {
-            return line;
-        }
-    }
-    NO_WORDS
+    TABLE
+        .into_iter()
+        .find(|words| words.rule == rule)
+        .unwrap_or(NO_WORDS)
 }
 
 pub fn wrong(rule: u8, name: &str) -> Phrase<'_> {
