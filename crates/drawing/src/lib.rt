@@ -7,41 +7,65 @@ mod shape;
 ghost use Rattle.std.specs.Prelude.{◌+◌, ◌≤◌};
 
 use labels::children::children_of;
-use lookup::node;
-use paper::NodeNo;
+use labels::text::Record;
+use lines::Indent;
+use paper::{Node, NodeNo};
 use shape::Role;
 use std::io;
 use std::io::Write;
 
-// A node and all that is below it, left first. An accepted record refers to lower nodes alone, and no child is the number 65535.
-fn draw<W: Write>(
-    out: &mut W,
-    bytes: &[u8],
-    entries: &[u32],
-    i: NodeNo,
-    depth: usize,
-    role: Role,
-) -> io::Result<()>
-    requires { depth + i.0 ≤ 65535 }
-{
-    let n = node(bytes, i);
-    if shape::has_line(n) {
-        lines::node_line(out, bytes, i, n, depth, role)?;
-        lines::marks(out, bytes, entries, i)?;
-    }
-    let children = children_of(n);
-    let first = children.first;
-    let second = children.second;
-    let deeper = depth + shape::step(n);
-    if first.0 < i.0 {
-        draw(out, bytes, entries, first, deeper, shape::first_role(n))?;
-    }
-    if second.0 < i.0 {
-        draw(out, bytes, entries, second, deeper, shape::second_role(n))?;
-    }
-    Ok(())
+// What is drawn: the record of a condition, and the entries about it.
+#[derive(Clone, Copy)]
+struct Drawing<'a> {
+    record: Record<'a>,
+    entries: &'a [u32],
 }
 
-pub fn tree<W: Write>(out: &mut W, bytes: &[u8], entries: &[u32], root: NodeNo) -> io::Result<()> {
-    draw(out, bytes, entries, root, 0, Role::Plain)
+impl Drawing<'_> {
+    fn line<W: Write>(
+        self,
+        out: &mut W,
+        i: NodeNo,
+        node: Node,
+        depth: usize,
+        role: Role,
+    ) -> io::Result<()> {
+        let number = i.0;
+        let indent = Indent(depth);
+        write!(
+            out,
+            "{number:>4}  {indent}{role}{}",
+            self.record.alone(node)
+        )?;
+        lines::marks(out, self.record, self.entries, i)?;
+        writeln!(out)
+    }
+
+    // A node and all that is below it, left first. An accepted record refers to lower nodes alone.
+    fn draw<W: Write>(self, out: &mut W, i: NodeNo, depth: usize, role: Role) -> io::Result<()>
+        requires { depth + i.0 ≤ 65535 }
+    {
+        let node = self.record.node(i);
+        if shape::has_line(node) {
+            self.line(out, i, node, depth, role)?;
+        }
+        let deeper = depth + shape::step(node);
+        for (child, role) in children_of(node).into_iter().zip(shape::roles(node)) {
+            if let Some(child) = child {
+                if child.0 < i.0 {
+                    self.draw(out, child, deeper, role)?;
+                }
+            }
+        }
+        Ok(())
+    }
+}
+
+pub fn tree<W: Write>(
+    out: &mut W,
+    record: Record<'_>,
+    entries: &[u32],
+    root: NodeNo,
+) -> io::Result<()> {
+    Drawing { record, entries }.draw(out, root, 0, Role::Plain)
 }

@@ -1,83 +1,44 @@
 // The lines of the tree: a node's number, and then, by its depth, what it is.
-use crate::shape::Role;
-use labels::text::{about, alone};
-use paper::{Node, NodeNo};
-use std::io;
+use labels::text::Record;
+use paper::NodeNo;
 use std::io::Write;
+use std::{fmt, io};
 use untied::behind;
 use wording::rules::wrong;
-use wording::say::{number, text};
 use writes::unpack;
 
-fn indent<W: Write>(out: &mut W, depth: usize) -> io::Result<()> {
-    for _ in 0..depth {
-        text(out, b"  ")?;
-    }
-    Ok(())
-}
+// Two columns for each step down.
+#[derive(Clone, Copy)]
+pub struct Indent(pub usize);
 
-// A number of up to three digits, to the right of four columns.
-fn in_column<W: Write>(out: &mut W, n: u16) -> io::Result<()> {
-    if n < 10 {
-        text(out, b" ")?;
-    }
-    if n < 100 {
-        text(out, b" ")?;
-    }
-    text(out, b" ")?;
-    number(out, n as usize)
-}
-
-fn say_role<W: Write>(out: &mut W, role: Role) -> io::Result<()> {
-    match role {
-        Role::Plain => Ok(()),
-        Role::Argument(field) => {
-            text(out, b"argument ")?;
-            number(out, field as usize)?;
-            text(out, b": ")
+impl fmt::Display for Indent {
+    fn fmt<W: fmt::Write>(&self, f: &mut fmt::Formatter<W>) -> fmt::Result {
+        for _ in 0..self.0 {
+            f.write_str("  ")?;
         }
-        Role::Where => text(out, b"where "),
+        Ok(())
     }
-}
-
-pub fn node_line<W: Write>(
-    out: &mut W,
-    bytes: &[u8],
-    i: NodeNo,
-    n: Node,
-    depth: usize,
-    role: Role,
-) -> io::Result<()> {
-    in_column(out, i.0)?;
-    text(out, b"  ")?;
-    indent(out, depth)?;
-    say_role(out, role)?;
-    alone(out, bytes, n)
 }
 
 // An entry, if it stands at the node.
-fn mark<W: Write>(out: &mut W, bytes: &[u8], entry: u32, i: NodeNo) -> io::Result<()> {
+fn mark<W: Write>(out: &mut W, record: Record<'_>, entry: u32, i: NodeNo) -> io::Result<()> {
     let f = unpack(entry);
-    if f.node.0 != i.0 {
+    if f.node != i {
         return Ok(());
     }
-    text(out, b"  ! ")?;
-    number(out, f.rule as usize)?;
-    text(out, b": ")?;
     let whom = f.name;
-    wrong(out, f.rule, about(bytes, whom))
-}
-
-fn each_mark<W: Write>(out: &mut W, bytes: &[u8], entries: &[u32], i: NodeNo) -> io::Result<()> {
-    for k in 0..entries.len() {
-        mark(out, bytes, entries[k], i)?;
-    }
-    Ok(())
+    write!(out, "  ! {}: {}", f.rule, wrong(f.rule, record.about(whom)))
 }
 
 // The entries of the node, at the end of its line, and why it ties nothing if it is an equality that does.
-pub fn marks<W: Write>(out: &mut W, bytes: &[u8], entries: &[u32], i: NodeNo) -> io::Result<()> {
-    each_mark(out, bytes, entries, i)?;
-    behind(out, bytes, i)?;
-    text(out, b"\n")
+pub fn marks<W: Write>(
+    out: &mut W,
+    record: Record<'_>,
+    entries: &[u32],
+    i: NodeNo,
+) -> io::Result<()> {
+    for &entry in entries {
+        mark(out, record, entry, i)?;
+    }
+    behind(out, record, i)
 }

@@ -2,13 +2,14 @@
 ghost use Rattle.std.specs.Prelude.{◌≤◌};
 
 use paper::Node;
+use std::fmt;
 
 // A binder of a list can have an entry, so its cell has a line.
 pub fn has_line(n: Node) -> bool {
-    match n {
-        Node::ListEnd | Node::ArgumentCell(_, _, _) | Node::ItemCell(_, _) => false,
-        _ => true,
-    }
+    !matches!(
+        n,
+        Node::ListEnd | Node::ArgumentCell(_, _, _) | Node::ItemCell(_, _)
+    )
 }
 
 // How much deeper the children are drawn: the rest of a list stands beside its first.
@@ -29,16 +30,21 @@ pub enum Role {
     Where,
 }
 
-pub fn first_role(n: Node) -> Role {
-    match n {
-        Node::ArgumentCell(field, _, _) => Role::Argument(field),
-        _ => Role::Plain,
+impl fmt::Display for Role {
+    fn fmt<W: fmt::Write>(&self, f: &mut fmt::Formatter<W>) -> fmt::Result {
+        match *self {
+            Role::Plain => Ok(()),
+            Role::Argument(field) => write!(f, "argument {field}: "),
+            Role::Where => write!(f, "where "),
+        }
     }
 }
 
-pub fn second_role(n: Node) -> Role {
+// Those of a node's children, in their order.
+pub fn roles(n: Node) -> [Role; 2] {
     match n {
-        Node::Sum(_, _, _) | Node::Count(_, _) => Role::Where,
-        _ => Role::Plain,
+        Node::ArgumentCell(field, _, _) => [Role::Argument(field), Role::Plain],
+        Node::Sum(_, _, _) | Node::Count(_, _) => [Role::Plain, Role::Where],
+        _ => [Role::Plain, Role::Plain],
     }
 }

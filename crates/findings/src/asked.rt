@@ -1,9 +1,8 @@
 // What the program's arguments ask for.
-ghost use Rattle.std.specs.Prelude.{◌≤◌};
-
 use std::env::{Env, FillError};
+use std::fmt;
 
-#[derive(Clone, Copy)]
+#[derive(Clone, Copy, PartialEq, Eq)]
 pub enum Mode {
     Words,
     Numbers,
@@ -11,21 +10,39 @@ pub enum Mode {
     Help,
 }
 
-// What is wrong with the arguments, and with which of them.
-#[derive(Clone, Copy)]
-pub enum Fault {
-    Nothing,
-    Option(usize),
-    SecondFile(usize),
-    SecondMode(usize),
-}
-
-// The file is an argument's number; 0 is standard input.
+// The mode of an option, and the argument that names a file; none where nothing was said.
 #[derive(Clone, Copy)]
 pub struct Asked {
-    pub mode: Mode,
-    pub file: usize,
-    pub fault: Fault,
+    pub mode: Option<Mode>,
+    pub file: Option<usize>,
+}
+
+#[derive(Clone, Copy)]
+pub enum Wrong {
+    Option,
+    SecondFile,
+    SecondMode,
+}
+
+impl fmt::Display for Wrong {
+    fn fmt<W: fmt::Write>(&self, f: &mut fmt::Formatter<W>) -> fmt::Result {
+        f.write_str(match self {
+            Wrong::Option => {
+                "there is no such option. `findings --help` names those that there are."
+            }
+            Wrong::SecondFile => "this is a second file. Name one file at a time.",
+            Wrong::SecondMode => {
+                "this does not go with the option before it. Choose one of them."
+            }
+        })
+    }
+}
+
+// What is wrong with the arguments, and with which of them.
+#[derive(Clone, Copy)]
+pub struct Fault {
+    pub argument: usize,
+    pub wrong: Wrong,
 }
 
 #[derive(Clone, Copy)]
@@ -45,14 +62,12 @@ fn word_of(argument: &[u8]) -> Word {
     }
 }
 
-// Puts an argument into the buffer, and answers how many bytes of it stand there: all of them, or as many as the buffer holds.
-pub fn argument(rt: &impl Env, i: usize, buffer: &mut [u8; 4096]) -> usize
-    ensures { result ≤ 4096 }
-{
+// An argument, put into the buffer: all its bytes, or as many as the buffer holds.
+pub fn argument<'a>(rt: &impl Env, i: usize, buffer: &'a mut [u8; 4096]) -> &'a [u8] {
     match rt.arg(i, buffer) {
-        Ok(n) => n,
-        Err(FillError::NotPresent) => 0,
-        Err(FillError::TooLong) => 4096,
+        Ok(n) => &buffer[..n],
+        Err(FillError::NotPresent) => &[],
+        Err(FillError::TooLong) => buffer,
     }
 }
 
@@ -66,74 +81,38 @@ fn is_there(rt: &impl Env, i: usize) -> bool {
 
 fn word_at(rt: &impl Env, i: usize) -> Word {
     let mut buffer = [0u8; 4096];
-    let n = argument(rt, i, &mut buffer);
-    word_of(&buffer[..n])
+    word_of(argument(rt, i, &mut buffer))
 }
 
-fn faulty(asked: Asked, fault: Fault) -> Asked {
-    let mode = asked.mode;
-    Asked {
-        mode: mode,
-        file: asked.file,
-        fault: fault,
+impl Asked {
+    fn add(&mut self, i: usize, word: Word) -> Result<(), Wrong> {
+        match word {
+            Word::Unknown => Err(Wrong::Option),
+            Word::Mode(mode) => match self.mode.replace(mode) {
+                None => Ok(()),
+                Some(_) => Err(Wrong::SecondMode),
+            },
+            Word::File => match self.file.replace(i) {
+                None => Ok(()),
+                Some(_) => Err(Wrong::SecondFile),
+            },
+        }
     }
 }
 
-fn with_mode(asked: Asked, i: usize, mode: Mode) -> Asked {
-    let before = asked.mode;
-    let fault = asked.fault;
-    match before {
-        Mode::Words => Asked {
-            mode: mode,
-            file: asked.file,
-            fault: fault,
-        },
-        _ => faulty(asked, Fault::SecondMode(i)),
-    }
-}
-
-fn with_file(asked: Asked, i: usize) -> Asked {
-    if asked.file != 0 {
-        return faulty(asked, Fault::SecondFile(i));
-    }
-    let mode = asked.mode;
-    let fault = asked.fault;
-    Asked {
-        mode: mode,
-        file: i,
-        fault: fault,
-    }
-}
-
-// The first fault stays.
-fn with_word(rt: &impl Env, asked: Asked, i: usize) -> Asked {
-    let fault = asked.fault;
-    let Fault::Nothing = fault else {
-        return asked;
+// The first fault counts.
+pub fn arguments(rt: &impl Env) -> Result<Asked, Fault> {
+    let mut asked = Asked {
+        mode: None,
+        file: None,
     };
-    let word = word_at(rt, i);
-    match word {
-        Word::Mode(mode) => with_mode(asked, i, mode),
-        Word::Unknown => faulty(asked, Fault::Option(i)),
-        Word::File => with_file(asked, i),
-    }
-}
-
-fn nothing() -> Asked {
-    Asked {
-        mode: Mode::Words,
-        file: 0,
-        fault: Fault::Nothing,
-    }
-}
-
-pub fn arguments(rt: &impl Env) -> Asked {
-    let mut asked = nothing();
-    for i in 1..usize::MAX {
-        if !is_there(rt, i) {
+    for argument in 1..usize::MAX {
+        if !is_there(rt, argument) {
             break;
         }
-        asked = with_word(rt, asked, i);
+        asked
+            .add(argument, word_at(rt, argument))
+            .map_err(|wrong| Fault { argument, wrong })?;
     }
-    asked
+    Ok(asked)
 }

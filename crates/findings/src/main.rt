@@ -5,9 +5,8 @@ mod asked;
 mod input;
 mod show;
 
-use asked::{Asked, Fault, Mode};
-use input::Input;
-use paper::Listing;
+use asked::{Asked, Mode};
+use paper::Unlisted;
 use questions::list;
 use std::io;
 use std::io::{Lock, Write};
@@ -15,64 +14,37 @@ use std::io::{Lock, Write};
 // A list has at most 262,272 entries (docs/THEOREMS.md), so there is always room. They take one megabyte of the stack, which has eight.
 fn answer<W: Write>(out: &mut W, record: &[u8], mode: Mode) -> io::Result<()> {
     let mut entries = [0u32; 262272];
-    let l = list(record, &mut entries);
-    match l {
-        Listing::Listed(count) => show::listed(out, record, &entries, count, mode),
-        Listing::NoRoom(needed) => show::no_room(out, needed),
-        Listing::Refused { number, offset } => show::refused(out, record, number, offset, mode),
+    match list(record, &mut entries) {
+        Ok(count) => {
+            let listed = entries.get(..count).unwrap_or(&entries);
+            show::listed(out, record, listed, mode)
+        }
+        Err(Unlisted::NoRoom { needed }) => show::no_room(out, needed),
+        Err(Unlisted::Refused(refusal)) => show::refused(out, record, refusal, mode),
     }
 }
 
-fn answer_to<W: Write>(
-    out: &mut W,
-    bytes: &[u8; 65536],
-    count: usize,
-    mode: Mode,
-) -> io::Result<()> {
-    answer(out, input::part(bytes, count), mode)
+fn on_input(rt: &HostRuntime, file: Option<usize>, mode: Mode) -> io::Result<()> {
+    if file.is_none() {
+        input::hint(rt)?;
+    }
+    let mut buffer = [0u8; 65536];
+    match input::read(rt, file, &mut buffer) {
+        Ok(record) => answer(&mut rt.stdout().lock(), record, mode),
+        Err(unread) => input::complain(rt, file, unread),
+    }
 }
 
-fn on_input(rt: &HostRuntime, asked: Asked) -> io::Result<()> {
-    let file = asked.file;
-    let mode = asked.mode;
-    let mut bytes = [0u8; 65536];
-    match input::read(rt, file, &mut bytes)? {
-        Input::Failed => Ok(()),
-        Input::TooLarge => input::complain(
-            rt,
-            file,
-            b"this is larger than any record: one has 6258 bytes at most. Check that it is the right file.",
-        ),
-        Input::Bytes(count) => answer_to(&mut rt.stdout().lock(), &bytes, count, mode),
+fn run(rt: &HostRuntime, asked: Asked) -> io::Result<()> {
+    match asked.mode.unwrap_or(Mode::Words) {
+        Mode::Help => show::usage(&mut rt.stdout().lock()),
+        mode => on_input(rt, asked.file, mode),
     }
 }
 
 fn main(rt: HostRuntime) -> io::Result<()> {
-    let asked = asked::arguments(&rt);
-    let fault = asked.fault;
-    match fault {
-        Fault::Nothing => {}
-        Fault::Option(i) => {
-            return input::complain(
-                &rt,
-                i,
-                b"there is no such option. `findings --help` names those that there are.",
-            );
-        }
-        Fault::SecondFile(i) => {
-            return input::complain(&rt, i, b"this is a second file. Name one file at a time.");
-        }
-        Fault::SecondMode(i) => {
-            return input::complain(
-                &rt,
-                i,
-                b"this does not go with the option before it. Choose one of them.",
-            );
-        }
+    match asked::arguments(&rt) {
+        Ok(asked) => run(&rt, asked),
+        Err(fault) => input::complain(&rt, Some(fault.argument), fault.wrong),
     }
-    let mode = asked.mode;
-    if let Mode::Help = mode {
-        return show::usage(&mut rt.stdout().lock());
-    }
-    on_input(&rt, asked)
 }

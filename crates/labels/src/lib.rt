@@ -2,5 +2,5 @@
 #![tactic(auto)]
 
 pub mod children;
-mod kind;
+mod operators;
 pub mod text;

@@ -1,124 +1,147 @@
 // A node on a line: its kind by document 01's word, with the names and the numbers that stand in it.
-use crate::kind::{Detail, detail_of, kind};
-use lookup::node;
-use paper::{Node, NodeNo, Slot, Subject};
-use record::access::name;
-use std::io;
-use std::io::Write;
-use wording::lines::{decimal, hexadecimal, say};
-use wording::say::{number, text};
+use crate::operators::{comparing, computing};
+use paper::{NameNo, Node, NodeNo, Slot};
+use record::access;
+use std::{fmt, str};
 
-fn kind_word<W: Write>(out: &mut W, n: Node) -> io::Result<()> {
-    let table = b"\
-10 And\n\
-11 Or\n\
-12 Not\n\
-13 Formerly within \n\
-14 Previous within \n\
-15 Since within \n\
-16 Exists \n\
-17 Comparison \n\
-18 Predicate \n\
-19 Refine\n\
-1A Tp \n\
-1B Call \n\
-1C SigilRef \n\
-20 Var \n\
-21 Wildcard\n\
-22 Literal \n\
-23 ScopeField \n\
-24 ContextField \n\
-25 ParamRef ?\n\
-26 BinderRef $\n\
-27 Array\n\
-28 Arith \n\
-29 Sum of \n\
-2A Count\n\
-2B aggregate Call \n\
-30 list end\n\
-31 argument \n\
-32 item\n\
-33 for \n";
-    say(out, table, hexadecimal(kind(n)), b"")
+// The bytes of a record, of which names and nodes are told in words.
+#[derive(Clone, Copy)]
+pub struct Record<'a> {
+    pub bytes: &'a [u8],
 }
 
-// Document 01 says that 0 is equality, and request W-207 that 1 is 'less' and 2 'at most'. Which of the others 3 to 5 are is our reading.
-fn comparing<W: Write>(out: &mut W, op: u8) -> io::Result<()> {
-    say(
-        out,
-        b"00 ==\n01 <\n02 <=\n03 >\n04 >=\n05 !=\n",
-        decimal(op),
-        b"",
-    )
-}
+impl<'a> Record<'a> {
+    pub fn node(self, i: NodeNo) -> Node {
+        lookup::node(self.bytes, i)
+    }
 
-// Our reading too: the order of the Rust's `ArithOp` (oracle/dogwood, ast.rs).
-fn computing<W: Write>(out: &mut W, op: u8) -> io::Result<()> {
-    say(out, b"00 +\n01 -\n02 *\n", decimal(op), b"")
+    // A name is letters, digits and underscores, so it is text.
+    pub fn name(self, x: NameNo) -> &'a str {
+        str::from_utf8(access::name(self.bytes, x)).unwrap_or("")
+    }
+
+    // The name that an entry is about, or nothing.
+    pub fn about(self, whom: Option<NameNo>) -> &'a str {
+        match whom {
+            Some(x) => self.name(x),
+            None => "",
+        }
+    }
+
+    // A node without what is below it.
+    pub fn alone(self, node: Node) -> Alone<'a> {
+        Alone { record: self, node }
+    }
+
+    // A node by its number, a comparison with its sides.
+    pub fn described(self, i: NodeNo) -> Described<'a> {
+        let node = self.node(i);
+        Described { record: self, node }
+    }
+
+    fn slot(self, slot: Slot) -> Bound<'a> {
+        Bound { record: self, slot }
+    }
+
+    fn side(self, i: NodeNo) -> Side<'a> {
+        let node = self.node(i);
+        Side { record: self, node }
+    }
 }
 
 // A name, or a sigil as the Rust's language writes it.
-fn slot<W: Write>(out: &mut W, bytes: &[u8], s: Slot) -> io::Result<()> {
-    match s {
-        Slot::Name(x) => text(out, name(bytes, x)),
-        Slot::Param(k) => {
-            text(out, b"?")?;
-            number(out, k as usize)
-        }
-        Slot::Binder(k) => {
-            text(out, b"$")?;
-            number(out, k as usize)
+#[derive(Clone, Copy)]
+struct Bound<'a> {
+    record: Record<'a>,
+    slot: Slot,
+}
+
+impl fmt::Display for Bound<'_> {
+    fn fmt<W: fmt::Write>(&self, f: &mut fmt::Formatter<W>) -> fmt::Result {
+        match self.slot {
+            Slot::Name(x) => f.write_str(self.record.name(x)),
+            Slot::Param(k) => write!(f, "?{k}"),
+            Slot::Binder(k) => write!(f, "${k}"),
         }
     }
 }
 
-fn say_detail<W: Write>(out: &mut W, bytes: &[u8], d: Detail) -> io::Result<()> {
-    match d {
-        Detail::Nothing => Ok(()),
-        Detail::Number(n) => number(out, n as usize),
-        Detail::Byte(n) => number(out, n as usize),
-        Detail::Bound(s) => slot(out, bytes, s),
-        Detail::Compares(op) => comparing(out, op),
-        Detail::Computes(op) => computing(out, op),
-    }
+#[derive(Clone, Copy)]
+pub struct Alone<'a> {
+    record: Record<'a>,
+    node: Node,
 }
 
-// A node without what is below it.
-pub fn alone<W: Write>(out: &mut W, bytes: &[u8], n: Node) -> io::Result<()> {
-    kind_word(out, n)?;
-    say_detail(out, bytes, detail_of(n))
+impl fmt::Display for Alone<'_> {
+    fn fmt<W: fmt::Write>(&self, f: &mut fmt::Formatter<W>) -> fmt::Result {
+        let record = self.record;
+        match self.node {
+            Node::And(_, _) => write!(f, "And"),
+            Node::Or(_, _) => write!(f, "Or"),
+            Node::Not(_) => write!(f, "Not"),
+            Node::Formerly(_, window) => write!(f, "Formerly within {window}"),
+            Node::Previous(_, window) => write!(f, "Previous within {window}"),
+            Node::Since(_, _, window) => write!(f, "Since within {window}"),
+            Node::Exists(slot, _, _) => write!(f, "Exists {}", record.slot(slot)),
+            Node::Comparison(op, _, _) => write!(f, "Comparison {}", comparing(op)),
+            Node::Predicate(action, _) => write!(f, "Predicate {action}"),
+            Node::Refine(_, _) => write!(f, "Refine"),
+            Node::Tp(slot) => write!(f, "Tp {}", record.slot(slot)),
+            Node::Call(number) => write!(f, "Call {number}"),
+            Node::SigilRef(number) => write!(f, "SigilRef {number}"),
+            Node::Var(x) => write!(f, "Var {}", record.name(x)),
+            Node::Wildcard => write!(f, "Wildcard"),
+            Node::Literal(number) => write!(f, "Literal {number}"),
+            Node::ScopeField(field) => write!(f, "ScopeField {field}"),
+            Node::ContextField(field) => write!(f, "ContextField {field}"),
+            Node::ParamRef(k) => write!(f, "ParamRef ?{k}"),
+            Node::BinderRef(k) => write!(f, "BinderRef ${k}"),
+            Node::Array(_) => write!(f, "Array"),
+            Node::Arith(op, _, _) => write!(f, "Arith {}", computing(op)),
+            Node::Sum(slot, _, _) => write!(f, "Sum of {}", record.slot(slot)),
+            Node::Count(_, _) => write!(f, "Count"),
+            Node::AggregateCall(number) => write!(f, "aggregate Call {number}"),
+            Node::ListEnd => write!(f, "list end"),
+            Node::ArgumentCell(field, _, _) => write!(f, "argument {field}"),
+            Node::ItemCell(_, _) => write!(f, "item"),
+            Node::BinderCell(slot, _, _) => write!(f, "for {}", record.slot(slot)),
+        }
+    }
 }
 
 // A side of a comparison in a few words: a name stands for itself.
-fn side<W: Write>(out: &mut W, bytes: &[u8], i: NodeNo) -> io::Result<()> {
-    let n = node(bytes, i);
-    match n {
-        Node::Var(x) => text(out, name(bytes, x)),
-        Node::Wildcard => text(out, b"*"),
-        _ => alone(out, bytes, n),
-    }
+#[derive(Clone, Copy)]
+struct Side<'a> {
+    record: Record<'a>,
+    node: Node,
 }
 
-// A node by its number, a comparison with its sides.
-pub fn described<W: Write>(out: &mut W, bytes: &[u8], i: NodeNo) -> io::Result<()> {
-    let n = node(bytes, i);
-    match n {
-        Node::Comparison(op, left, right) => {
-            text(out, b"Comparison ")?;
-            side(out, bytes, left)?;
-            text(out, b" ")?;
-            comparing(out, op)?;
-            text(out, b" ")?;
-            side(out, bytes, right)
+impl fmt::Display for Side<'_> {
+    fn fmt<W: fmt::Write>(&self, f: &mut fmt::Formatter<W>) -> fmt::Result {
+        match self.node {
+            Node::Var(x) => f.write_str(self.record.name(x)),
+            Node::Wildcard => f.write_str("*"),
+            node => write!(f, "{}", self.record.alone(node)),
         }
-        _ => alone(out, bytes, n),
     }
 }
 
-// The name that an entry is about, or nothing.
-pub fn about(bytes: &[u8], s: Subject) -> &[u8] {
-    match s {
-        Subject::Name(x) => name(bytes, x),
-        Subject::NoName => &bytes[..0],
+#[derive(Clone, Copy)]
+pub struct Described<'a> {
+    record: Record<'a>,
+    node: Node,
+}
+
+impl fmt::Display for Described<'_> {
+    fn fmt<W: fmt::Write>(&self, f: &mut fmt::Formatter<W>) -> fmt::Result {
+        let record = self.record;
+        match self.node {
+            Node::Comparison(op, l, r) => {
+                let left = record.side(l);
+                let right = record.side(r);
+                write!(f, "Comparison {left} {} {right}", comparing(op))
+            }
+            node => write!(f, "{}", record.alone(node)),
+        }
     }
 }

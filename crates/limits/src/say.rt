@@ -1,127 +1,54 @@
 // What the reader and the list say, as lines of text.
-use paper::{Listing, NameNo, Verdict};
+use paper::{Counts, NameNo, Refusal, Unlisted};
 use questions::list;
 use record::access::name;
 use record::reader::read;
-use std::io;
 use std::io::Write;
+use std::{io, str};
+use wording::counts::Counted;
 
-fn text<W: Write>(to: &mut W, bytes: &[u8]) -> io::Result<()> {
-    to.write_all(bytes)
-}
-
-fn number<W: Write>(to: &mut W, n: usize) -> io::Result<()> {
-    write!(to, "{n}")
-}
-
-fn counted<W: Write>(to: &mut W, n: usize, noun: &[u8]) -> io::Result<()> {
-    number(to, n)?;
-    text(to, b" ")?;
-    text(to, noun)?;
-    if n != 1 {
-        text(to, b"s")?;
-    }
-    Ok(())
-}
-
-fn verdict<W: Write>(to: &mut W, v: Verdict) -> io::Result<()> {
-    match v {
-        Verdict::Counts { names, nodes } => {
-            text(to, b"accepted, ")?;
-            counted(to, names, b"name")?;
-            text(to, b", ")?;
-            counted(to, nodes, b"node")
+fn verdict<W: Write>(to: &mut W, verdict: Result<Counts, Refusal>) -> io::Result<()> {
+    match verdict {
+        Ok(Counts { names, nodes }) => {
+            let names = Counted(names, "name");
+            let nodes = Counted(nodes, "node");
+            write!(to, "accepted, {names}, {nodes}")
         }
-        Verdict::Refused { number: n, offset } => {
-            text(to, b"refused ")?;
-            number(to, n as usize)?;
-            text(to, b" at byte ")?;
-            number(to, offset)
-        }
+        Err(Refusal { number, offset }) => write!(to, "refused {number} at byte {offset}"),
     }
 }
 
-fn part(bytes: &[u8], len: usize) -> &[u8] {
-    if bytes.len() < len {
-        return bytes;
+// A line for the record that the bytes are.
+pub fn reading<W: Write>(to: &mut W, title: &str, bytes: &[u8]) -> io::Result<()> {
+    let length = Counted(bytes.len(), "byte");
+    write!(to, "{title}, {length}: ")?;
+    verdict(to, read(bytes).verdict)?;
+    writeln!(to)
+}
+
+// A line for a name of that record, which is text.
+pub fn lookup<W: Write>(to: &mut W, bytes: &[u8], x: u8) -> io::Result<()> {
+    let found = name(bytes, NameNo(x));
+    let length = Counted(found.len(), "byte");
+    let text = str::from_utf8(found).unwrap_or("");
+    writeln!(to, "  name {x}, {length}: \"{text}\"")
+}
+
+fn listed<W: Write>(to: &mut W, answer: Result<usize, Unlisted>) -> io::Result<()> {
+    match answer {
+        Ok(count) => write!(to, "{count} entries"),
+        Err(Unlisted::NoRoom { needed }) => write!(to, "50, {needed} needed"),
+        Err(Unlisted::Refused(refusal)) => write!(to, "refused {}", refusal.number),
     }
-    &bytes[..len]
-}
-
-// A line for the record that the first bytes of the array are.
-pub fn reading<W: Write>(to: &mut W, title: &[u8], out: &[u8; 8192], len: usize) -> io::Result<()> {
-    let bytes = part(out, len);
-    let r = read(bytes);
-    let v = r.verdict;
-    text(to, title)?;
-    text(to, b", ")?;
-    counted(to, bytes.len(), b"byte")?;
-    text(to, b": ")?;
-    verdict(to, v)?;
-    text(to, b"\n")
-}
-
-// A line for a name of that record.
-pub fn lookup<W: Write>(to: &mut W, out: &[u8; 8192], len: usize, x: u8) -> io::Result<()> {
-    let found = name(part(out, len), NameNo(x));
-    text(to, b"  name ")?;
-    number(to, x as usize)?;
-    text(to, b", ")?;
-    counted(to, found.len(), b"byte")?;
-    text(to, b": \"")?;
-    text(to, found)?;
-    text(to, b"\"\n")
-}
-
-fn listed<W: Write>(to: &mut W, l: Listing) -> io::Result<()> {
-    match l {
-        Listing::Listed(count) => {
-            number(to, count)?;
-            text(to, b" entries")
-        }
-        Listing::NoRoom(needed) => {
-            text(to, b"50, ")?;
-            number(to, needed)?;
-            text(to, b" needed")
-        }
-        Listing::Refused {
-            number: n,
-            offset: _,
-        } => {
-            text(to, b"refused ")?;
-            number(to, n as usize)
-        }
-    }
-}
-
-fn entry<W: Write>(to: &mut W, v: u32) -> io::Result<()> {
-    text(to, b", ")?;
-    number(to, v as usize)
-}
-
-fn entry_at<W: Write>(to: &mut W, entries: &[u32], i: usize) -> io::Result<()> {
-    if i < entries.len() {
-        entry(to, entries[i])?;
-    }
-    Ok(())
 }
 
 // A line for the list of that record: the answer, and the first and the last entry of the buffer afterwards.
-pub fn listing<W: Write>(
-    to: &mut W,
-    out: &[u8; 8192],
-    len: usize,
-    entries: &mut [u32],
-) -> io::Result<()> {
-    let room = entries.len();
-    let l = list(part(out, len), entries);
-    text(to, b"  a buffer of ")?;
-    number(to, room)?;
-    text(to, b": ")?;
-    listed(to, l)?;
-    entry_at(to, entries, 0)?;
-    if 0 < room {
-        entry_at(to, entries, room - 1)?;
+pub fn listing<W: Write>(to: &mut W, bytes: &[u8], entries: &mut [u32]) -> io::Result<()> {
+    let answer = list(bytes, entries);
+    write!(to, "  a buffer of {}: ", entries.len())?;
+    listed(to, answer)?;
+    for entry in entries.first().into_iter().chain(entries.last()) {
+        write!(to, ", {entry}")?;
     }
-    text(to, b"\n")
+    writeln!(to)
 }

@@ -1,8 +1,8 @@
-// A node of a record by its number: what it is, and what it ties if it is an equality. As the name lookup does, each function reads the record again, which takes
-// microseconds, so that nobody has to carry where its nodes lie.
+// A node of a record by its number: what it is, and what it ties if it is an equality. As the name lookup does, each function reads the record again, which
+// takes microseconds, so that nobody has to carry where its nodes lie.
 #![tactic(auto)]
 
-ghost use Rattle.std.specs.Prelude.{◌≡◌, length, get_or};
+ghost use Rattle.std.specs.Prelude.{◌≡◌, get_or};
 ghost use Rattle.paper.specs.declared.Node.TheVariants.{ListEnd};
 ghost use Rattle.paper.specs.Tree.{as_condition, tree_at};
 ghost use Rattle.record.specs.Stored.{contents, Has};
@@ -10,72 +10,60 @@ ghost use Rattle.trees.specs.Trees.{condition_of};
 ghost use Rattle.lookup.specs.Found.{Loaded, asked};
 
 use columns::fill;
-use paper::{Equality, Node, NodeNo, Verdict};
+use paper::{Equality, Node, NodeNo};
 use record::access::node_at;
 use record::reader::read;
 use vars::eq_restricted_var;
 use views::{Owing, owing_at};
 
-// What a node answers that is asked what it ties.
-#[derive(Clone, Copy)]
-pub enum Asked {
-    NoEquality,
-    Equality(Equality),
-}
-
-// Whether the record has the node; if so, the columns hold its nodes.
-fn load(bytes: &[u8], i: NodeNo, columns: &mut [u64; 513]) -> bool
-    requires { length columns.old ≡ 513 }
-    ensures { Loaded bytes.now i.0 result columns.new }
+// The columns that hold the record's nodes, if it has this one.
+fn load(bytes: &[u8], i: NodeNo) -> Option<[u64; 513]>
+    ensures { Loaded bytes.now i.0 result }
 {
-    let r = read(bytes);
-    let v = r.verdict;
-    let a = r.arena;
-    let Verdict::Counts { names: _, nodes } = v else {
-        return false;
+    let reading = read(bytes);
+    let Ok(counts) = reading.verdict else {
+        return None;
     };
+    let nodes = counts.nodes;
     if nodes <= (i.0 as usize) {
-        return false;
+        return None;
     }
-    fill(bytes, &a.starts, nodes, columns);
-    true
+    let mut columns = [0u64; 513];
+    fill(bytes, &reading.arena.starts, nodes, &mut columns);
+    Some(columns)
 }
 
 // A list end for an unknown number or a record that is turned away.
 pub fn node(bytes: &[u8], i: NodeNo) -> Node
     ensures { result ≡ get_or (contents bytes.now).nodes i.0 ListEnd }
 {
-    let mut columns = [0u64; 513];
-    if load(bytes, i, &mut columns) {
-        return node_at(&columns, i);
+    match load(bytes, i) {
+        Some(columns) => node_at(&columns, i),
+        None => Node::ListEnd,
     }
-    Node::ListEnd
 }
 
-// Only an equality is asked.
-fn answer(columns: &[u64; 513], i: NodeNo) -> Asked
+// Only an equality is asked what it ties.
+fn answer(columns: &[u64; 513], i: NodeNo) -> Option<Equality>
     requires { Has columns.now i.0 }
     ensures { result ≡ asked (condition_of columns.now i.0) }
 {
     match owing_at(columns, i) {
         Owing::Comparison(op, l, r) => {
             if op == 0 {
-                Asked::Equality(eq_restricted_var(columns, l, r))
+                Some(eq_restricted_var(columns, l, r))
             } else {
-                Asked::NoEquality
+                None
             }
         }
-        _ => Asked::NoEquality,
+        _ => None,
     }
 }
 
-// No equality for an unknown number or a record that is turned away.
-pub fn equality(bytes: &[u8], i: NodeNo) -> Asked
+// What the node ties, if it is an equality: none for an unknown number or a record that is turned away.
+pub fn equality(bytes: &[u8], i: NodeNo) -> Option<Equality>
     ensures { result ≡ asked (as_condition (tree_at (contents bytes.now).nodes i.0)) }
 {
-    let mut columns = [0u64; 513];
-    if load(bytes, i, &mut columns) {
-        return answer(&columns, i);
-    }
-    Asked::NoEquality
+    let columns = load(bytes, i)?;
+    answer(&columns, i)
 }

@@ -1,8 +1,11 @@
 // The stored list. A case is the length of its record in two bytes, a seed in sixteen, low bytes first; rule and name of five answers; and its record.
-ghost use Rattle.std.specs.Prelude.{◌<◌, ◌≤◌, length};
+ghost use Rattle.std.specs.Prelude.{◌<◌, length, IfSome};
 
 use names::Names;
-use octets::{byte, number, tail};
+use octets::{byte, eight, number, tail};
+use paper::{Finding, Refusal};
+use std::fmt;
+use writes::name_or_255;
 
 const SEED: usize = 2;
 
@@ -10,63 +13,105 @@ const ANSWERS: usize = 18;
 
 const RECORD: usize = 28;
 
-// A rule and the number of a name, as the Rust's answers are stored.
-#[derive(Clone, Copy)]
+const NO_NAME: u8 = 255;
+
+// A rule and the number of a name, as the Rust's answers are stored. A refusal has its own number, which no stored answer has: every stored record is an
+// accepted one.
+#[derive(Clone, Copy, PartialEq, Eq)]
 pub struct Said {
     pub rule: u8,
     pub name: u8,
 }
 
-// What the Rust answered in the first case of the list.
-pub fn answer(list: &[u8], question: usize) -> Said
-    requires { question < 5 }
-{
-    let at = ANSWERS + 2 * question;
-    Said {
-        rule: byte(list, at),
-        name: byte(list, at + 1),
+impl Said {
+    fn of_nobody(rule: u8) -> Said {
+        Said {
+            rule,
+            name: NO_NAME,
+        }
+    }
+
+    fn stored(list: &[u8], at: usize) -> Said
+        requires { at < 28 }
+    {
+        Said {
+            rule: byte(list, at),
+            name: byte(list, at + 1),
+        }
     }
 }
 
-// Eight bytes, the low one first.
-fn word(list: &[u8], at: usize) -> u64
-    requires { at ≤ 10 }
-{
-    let mut w = 0u64;
-    for i in 0..8 {
-        let place: usize = at + (7 - i);
-        w = (w << 8) | (byte(list, place) as u64);
+impl From<Result<Option<Finding>, Refusal>> for Said {
+    fn from(answer: Result<Option<Finding>, Refusal>) -> Said {
+        match answer {
+            Ok(None) => Said::of_nobody(0),
+            Ok(Some(f)) => Said {
+                rule: f.rule,
+                name: name_or_255(f.name),
+            },
+            Err(refusal) => Said::of_nobody(refusal.number),
+        }
     }
-    w
 }
 
-pub fn seed(list: &[u8]) -> Names {
+impl From<Result<bool, Refusal>> for Said {
+    fn from(answer: Result<bool, Refusal>) -> Said {
+        Said::of_nobody(match answer {
+            Ok(false) => 0,
+            Ok(true) => 40,
+            Err(refusal) => refusal.number,
+        })
+    }
+}
+
+impl fmt::Display for Said {
+    fn fmt<W: fmt::Write>(&self, f: &mut fmt::Formatter<W>) -> fmt::Result {
+        let rule = self.rule;
+        let name = self.name;
+        write!(f, "{rule} {name}")
+    }
+}
+
+// What is stored of a record: its bytes, a seed, and what the Rust answered to each question.
+#[derive(Clone, Copy)]
+pub struct Case<'a> {
+    pub record: &'a [u8],
+    pub seed: Names,
+    pub answers: [Said; 5],
+}
+
+fn seed(list: &[u8]) -> Names {
     Names {
-        lo: word(list, SEED),
-        hi: word(list, SEED + 8),
+        lo: eight(list, SEED),
+        hi: eight(list, SEED + 8),
     }
 }
 
-fn part(bytes: &[u8], len: usize) -> &[u8] {
-    if bytes.len() < len {
-        return bytes;
-    }
-    &bytes[..len]
+fn answers(list: &[u8]) -> [Said; 5] {
+    [
+        Said::stored(list, ANSWERS),
+        Said::stored(list, ANSWERS + 2),
+        Said::stored(list, ANSWERS + 4),
+        Said::stored(list, ANSWERS + 6),
+        Said::stored(list, ANSWERS + 8),
+    ]
 }
 
-// Where the list is cut short the record is too, and the library refuses it.
-pub fn record(list: &[u8]) -> &[u8] {
-    part(tail(list, RECORD), usize::from(number(list, 0)))
-}
-
-// Where the case after the one at a place begins.
-pub fn next(list: &[u8], at: usize) -> usize
-    requires { at < length list.now }
-    ensures { (at < result) × (result ≤ length list.now) }
+// The first case of the list and the list behind it; none where the list is at its end. Where the list is cut short the record is too, and the library
+// refuses it.
+pub fn first_case(list: &[u8]) -> Option<(Case<'_>, &[u8])>
+    ensures { IfSome result (λ found. length found.1.now < length list.now) }
 {
-    let len = RECORD + usize::from(number(list, at));
-    if list.len() - at <= len {
-        return list.len();
+    if list.is_empty() {
+        return None;
     }
-    at + len
+    let behind = tail(list, RECORD);
+    let length = usize::from(number(list, 0)).min(behind.len());
+    let (record, rest) = behind.split_at(length);
+    let case = Case {
+        record,
+        seed: seed(list),
+        answers: answers(list),
+    };
+    Some((case, rest))
 }

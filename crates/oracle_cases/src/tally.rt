@@ -1,77 +1,93 @@
-// What was met: how often each rule was answered to each of the five questions, and how far the replay is.
-ghost use Rattle.std.specs.Prelude.{◌<◌};
+// What was met: how often each rule was answered to each question, and how far the replay is.
+use crate::question::{QUESTIONS, Question};
+use crate::stored::{Case, Said};
+use std::io;
+use std::io::Write;
 
-use std::num::wrapping_add_u64;
+// How often each rule was answered to a question. No rule is above 63: one that were would not be counted, and be missed in what is printed.
+type Counts = [u64; 64];
 
-// So many are kept for each question.
-const RULES: usize = 64;
+fn count(counts: &mut Counts, rule: u8) {
+    if let Some(times) = counts.get_mut(usize::from(rule)) {
+        *times = times.wrapping_add(1);
+    }
+}
 
 // So many cases so far, the answers that differed, and the cases that had such an answer.
-#[derive(Clone, Copy)]
-pub struct Run {
-    pub cases: u64,
-    pub told: u64,
-    pub differ: u64,
+#[derive(Drop)]
+pub struct Tally {
+    counts: [Counts; 5],
+    cases: u64,
+    told: u64,
+    differ: u64,
 }
 
-pub fn start() -> Run {
-    Run {
-        cases: 0,
-        told: 0,
-        differ: 0,
+impl Tally {
+    pub fn new() -> Tally {
+        Tally {
+            counts: [[0; 64]; 5],
+            cases: 0,
+            told: 0,
+            differ: 0,
+        }
+    }
+
+    // Holds the library's answer to the stored one.
+    fn hold<W: Write>(
+        &mut self,
+        out: &mut W,
+        question: Question,
+        expected: Said,
+        answer: Said,
+    ) -> io::Result<()> {
+        if expected == answer {
+            return Ok(());
+        }
+        if self.told < 10 {
+            let case = self.cases;
+            writeln!(
+                out,
+                "case {case}, {question}: the Rust has rule and name {expected}, the library {answer}"
+            )?;
+        }
+        self.told = self.told.wrapping_add(1);
+        Ok(())
+    }
+
+    // Asks all that is stored of a case.
+    pub fn replay<W: Write>(&mut self, out: &mut W, case: Case<'_>) -> io::Result<()> {
+        let told = self.told;
+        self.cases = self.cases.wrapping_add(1);
+        for (k, (question, expected)) in QUESTIONS.into_iter().zip(case.answers).enumerate() {
+            let answer = question.ask(case);
+            if let Some(counts) = self.counts.get_mut(k) {
+                count(counts, answer.rule);
+            }
+            self.hold(out, question, expected, answer)?;
+        }
+        if self.told != told {
+            self.differ = self.differ.wrapping_add(1);
+        }
+        Ok(())
+    }
+
+    // A line for each question, with each rule that was answered and how often, and one for all cases.
+    pub fn print<W: Write>(&self, out: &mut W) -> io::Result<()> {
+        for (question, counts) in QUESTIONS.iter().zip(&self.counts) {
+            print_counts(out, *question, counts)?;
+        }
+        let cases = self.cases;
+        let differ = self.differ;
+        writeln!(out, "{cases} cases replayed, {differ} differ")
     }
 }
 
-pub fn next_case(run: Run) -> Run {
-    Run {
-        cases: wrapping_add_u64(run.cases, 1),
-        told: run.told,
-        differ: run.differ,
+fn print_counts<W: Write>(out: &mut W, question: Question, counts: &Counts) -> io::Result<()> {
+    write!(out, "{question}")?;
+    let met = counts.iter().enumerate().filter(|(_, times)| **times != 0);
+    for (k, (rule, times)) in met.enumerate() {
+        let before = if k == 0 { ":" } else { "," };
+        write!(out, "{before} {rule} {times}")?;
     }
-}
-
-pub fn differing(run: Run) -> Run {
-    Run {
-        cases: run.cases,
-        told: wrapping_add_u64(run.told, 1),
-        differ: run.differ,
-    }
-}
-
-// After a case's last answer.
-pub fn closed(before: Run, after: Run) -> Run {
-    if before.told == after.told {
-        return after;
-    }
-    Run {
-        cases: after.cases,
-        told: after.told,
-        differ: wrapping_add_u64(after.differ, 1),
-    }
-}
-
-// Where a rule of a question is counted.
-fn place(question: usize, rule: usize) -> usize
-    requires { (question < 5) × (rule < 64) }
-    ensures { result < 320 }
-{
-    question * RULES + rule
-}
-
-// No rule is above 63. One that were would not be counted, and be missed in what is printed.
-pub fn count(counts: &mut [u64; 320], question: usize, rule: u8)
-    requires { question < 5 }
-{
-    let row = usize::from(rule);
-    if row < RULES {
-        let at = place(question, row);
-        counts[at] = wrapping_add_u64(counts[at], 1);
-    }
-}
-
-pub fn met(counts: &[u64; 320], question: usize, rule: usize) -> u64
-    requires { (question < 5) × (rule < 64) }
-{
-    let at = place(question, rule);
-    counts[at]
+    writeln!(out)
 }

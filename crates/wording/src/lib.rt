@@ -1,8 +1,8 @@
-// What a person is told of an entry and of a refusal.
+// What a person is told of an entry, of a refusal and of an equality that ties nothing.
 #![tactic(auto)]
 
-pub mod lines;
+pub mod counts;
+pub mod phrases;
 pub mod reasons;
 pub mod refusals;
 pub mod rules;
-pub mod say;

@@ -1,9 +1,0 @@
--- The count stays within the buffer, and the loop ends: each read that is counted brought some bytes.
-use Rattle.std.proofs.Common.{◌-◌, ◌≤◌}
-use Rattle.findings.proofs.input.read_full.Given as goal
-
-abbrev pub invariant-loop-count : goal.invariant-loop-count
-invariant-loop-count g l = l.count ≤ 65536
-
-abbrev pub decreases-loop-count : goal.decreases-loop-count
-decreases-loop-count g l = 65536 - l.count
