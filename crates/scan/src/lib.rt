@@ -45,6 +45,7 @@ pub fn scan_records(bytes: &[u8], starts: &mut [u16; 512]) -> Scanned
     let mut begun = false;
     let mut nn: usize = 0;
     let mut nk: usize = 0;
+    // A refusal and a node's start are places in the bytes, so the walk counts them: of a slice that shrinks they would be counted beside it.
     while at < bytes.len() {
         let kind = bytes[at];
         let body = &bytes[at + 1..];

@@ -1,4 +1,4 @@
-// The table of names, as it grows.
+// The table of names, as it grows. It is the local array of 24-byte arrays that document 01 asks for, so how many names it has stands beside it.
 #![tactic(auto)]
 
 ghost use Rattle.std.specs.Prelude.{◌≡◌, ◌≤◌, ◌<◌, set};
