@@ -12,19 +12,19 @@ use Rattle.trees.specs.Trees.{tree_of, is_condition, is_term}
 use Rattle.known.specs.Known.{Known, known_of, parts_of, nodes_of}
 use Rattle.known.specs.declared.Facts.{Facts}
 
--- what facts in words say: a mark is a bit of the last word
+-- what facts in words say: a mark is a bit of the word of marks
 unfoldable pub meant : Facts → Known
 meant f =
     record {
       free = mem f.free;
       restricted = mem f.restricted;
       need = mem f.need;
-      sigil = bit f.marks 0;
-      hard = bit f.marks 1;
-      broken = bit f.marks 2;
-      binds = bit f.marks 3;
-      unclosed = bit f.marks 4;
-      computed = bit f.marks 5;
+      sigil = bit f.marks.0 0;
+      hard = bit f.marks.0 1;
+      broken = bit f.marks.0 2;
+      binds = bit f.marks.0 3;
+      unclosed = bit f.marks.0 4;
+      computed = bit f.marks.0 5;
     }
 
 -- a word whose bits are these marks
@@ -38,7 +38,7 @@ pub record Marked (word : ℕ) (sigil hard broken binds unclosed computed : Bool
 
 -- the facts of a row that is not there
 abbrev pub no_facts : Facts
-no_facts = record { free = record { lo = 0; hi = 0 }; restricted = record { lo = 0; hi = 0 }; need = record { lo = 0; hi = 0 }; marks = 0 }
+no_facts = record { free = record { lo = 0; hi = 0 }; restricted = record { lo = 0; hi = 0 }; need = record { lo = 0; hi = 0 }; marks = record { 0 = 0 } }
 
 abbrev pub facts_at : List Facts → ℕ → Facts
 facts_at rows k = get_or rows k no_facts

@@ -9,7 +9,7 @@ ghost use Rattle.known.specs.Known.{known_of};
 ghost use Rattle.known.specs.Rows.{Noted, has_row};
 
 use crate::row::facts_at;
-use known::{BINDS, BROKEN, Facts, HARD, SIGIL, UNCLOSED};
+use known::{Facts, Marks};
 use names::Names;
 use paper::NodeNo;
 
@@ -51,7 +51,7 @@ impl NotedNodes<'_> {
         ensures { result ≡ holds_sigil (condition_of self.now.columns.now i.0) }
     {
         let f = facts_at(self.rows, i);
-        f.marks / SIGIL % 2 == 1
+        f.marks.has(Marks::SIGIL)
     }
 
     // Whether no demand below is unmet, with these names tied. A walk goes no further then; it may say no where nothing is found.
@@ -62,7 +62,7 @@ impl NotedNodes<'_> {
         let f = facts_at(self.rows, i);
         let need = f.need;
         let unmet = need - tied;
-        !(f.marks / HARD % 2 == 1) & unmet.is_empty()
+        !f.marks.has(Marks::HARD) & unmet.is_empty()
     }
 
     // Whether no rule of scoping is broken below, with these words reserved and these names in scope.
@@ -73,9 +73,9 @@ impl NotedNodes<'_> {
         let f = facts_at(self.rows, i);
         let free = f.free;
         let unknown = free - scope;
-        let broken = f.marks / BROKEN % 2 == 1;
-        let binds = f.marks / BINDS % 2 == 1;
-        let unclosed = f.marks / UNCLOSED % 2 == 1;
+        let broken = f.marks.has(Marks::BROKEN);
+        let binds = f.marks.has(Marks::BINDS);
+        let unclosed = f.marks.has(Marks::UNCLOSED);
         !broken & ((!binds | words.is_empty()) & (!unclosed | unknown.is_empty()))
     }
 }

@@ -9,7 +9,7 @@ ghost use Rattle.known.specs.Needs.{owes};
 ghost use Rattle.known.specs.Rows.{meant};
 ghost use Rattle.known.specs.Known.{nothing as no_facts, opaque as opaque_facts, naming as named_facts, both as both_facts, join, and_known, or_known, arith_known, since_known, compared as compared_facts, equated as equated_facts, searched as searched_facts, loose as loose_facts, refined as refined_facts, bound as bound_facts};
 
-use known::{BINDS, COMPUTED, Facts, SIGIL};
+use known::{Facts, Marks};
 use marks::{bound_marks, mark, searched_marks};
 use names::Names;
 use paper::{Equality, Slot};
@@ -23,7 +23,7 @@ pub fn nothing() -> Facts
         free: none,
         restricted: none,
         need: none,
-        marks: 0,
+        marks: Marks::NONE,
     }
 }
 
@@ -36,7 +36,7 @@ pub fn opaque() -> Facts
         free: none,
         restricted: none,
         need: none,
-        marks: SIGIL,
+        marks: Marks::SIGIL,
     }
 }
 
@@ -49,7 +49,7 @@ pub fn opaque_aggregate() -> Facts
         free: none,
         restricted: none,
         need: none,
-        marks: 33,
+        marks: Marks::SIGIL | Marks::COMPUTED,
     }
 }
 
@@ -62,7 +62,7 @@ pub fn naming(own: Names) -> Facts
         free: own,
         restricted: own,
         need: none,
-        marks: 0,
+        marks: Marks::NONE,
     }
 }
 
@@ -71,12 +71,12 @@ pub fn timed(own: Names, sigil: bool) -> Facts
     ensures { meant result ≡ named_facts (mem own) sigil true }
 {
     let none = Names::empty();
-    let marks = mark(sigil, SIGIL);
+    let marks = mark(sigil, Marks::SIGIL);
     Facts {
         free: own,
         restricted: own,
         need: none,
-        marks: BINDS | marks,
+        marks: Marks::BINDS | marks,
     }
 }
 
@@ -132,7 +132,7 @@ pub fn arith_facts(left: Facts, right: Facts) -> Facts
         free: free,
         restricted: given,
         need: needs,
-        marks: (left.marks | right.marks) | COMPUTED,
+        marks: (left.marks | right.marks) | Marks::COMPUTED,
     }
 }
 
@@ -233,7 +233,7 @@ pub fn refined(base: Facts, fields: Facts) -> Facts
         free: free,
         restricted: restricted,
         need: need,
-        marks: base.marks | (fields.marks & SIGIL),
+        marks: base.marks | (fields.marks & Marks::SIGIL),
     }
 }
 

@@ -7,4 +7,4 @@ pub returns : goal.returns
 unfolding bit
 returns c =
     let s = c.args in
-    rw (c.mark-broken.ensures, c.mark-hard.ensures) (bound_marked s.marks s.met s.tied)
+    rw (c.bitor-3.ensures, c.bitor-2.ensures, c.bitor.ensures, c.mark-broken.ensures, c.mark-hard.ensures, c.has-sigil.ensures) (bound_marked s.marks.0 s.met s.tied)

@@ -5,4 +5,4 @@ use Rattle.marks.proofs.searched_marks.Goals as goal
 
 pub returns : goal.returns
 unfolding bit
-returns c = rw c.mark-broken.ensures (searched_marked c.args.marks)
+returns c = rw (c.bitor-2.ensures, c.bitand.ensures, c.bitor.ensures, c.mark-broken.ensures, c.has-computed.ensures) (searched_marked c.args.marks.0)

@@ -12,13 +12,15 @@ pub returns : goal.returns
 unfolding meant arith_known bit
 returns c =
     let s = c.args in
-    let m = s.left.marks in
-    let n = s.right.marks in
+    let m = s.left.marks.0 in
+    let n = s.right.marks.0 in
     let o = bit_or m n in
     rw (
       c.bitor-needs.ensures,
       c.empty-given.ensures,
       c.bitor-free.ensures,
+      c.bitor-2.ensures,
+      c.bitor.ensures,
       kept o 32 0 refl ∙ bit_of_or m n 0,
       kept o 32 1 refl ∙ bit_of_or m n 1,
       kept o 32 2 refl ∙ bit_of_or m n 2,

@@ -6,4 +6,4 @@ use Rattle.together.proofs.opaque_aggregate.Goals as goal
 
 pub returns : goal.returns
 unfolding meant opaque bit
-returns c = rw c.empty-none.ensures
+returns c = rw (c.empty-none.ensures, c.bitor.ensures)

@@ -13,12 +13,14 @@ pub returns : goal.returns
 unfolding meant refined bit
 returns c =
     let s = c.args in
-    let m = s.base.marks in
-    let n = s.fields.marks in
+    let m = s.base.marks.0 in
+    let n = s.fields.marks.0 in
     let o = bit_and n 1 in
     rw (
       c.bitor-restricted.ensures,
       c.bitor-free.ensures,
+      c.bitor.ensures,
+      c.bitand.ensures,
       bit_of_or m o 0 ∙ ap (◌||◌ (bit m 0)) (masked n 1 0 refl),
       kept m o 1 (cleared n 1 1 refl),
       kept m o 2 (cleared n 1 2 refl),

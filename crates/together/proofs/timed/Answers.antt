@@ -12,6 +12,7 @@ returns c =
     let b = c.args.sigil in
     rw (
       c.empty-none.ensures,
+      c.bitor.ensures,
       c.mark-marks.ensures,
       maybe_added 8 1 0 b refl,
       maybe_kept 8 1 1 b refl,

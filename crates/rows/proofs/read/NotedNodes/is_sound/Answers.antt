@@ -12,11 +12,12 @@ use Rattle.rows.proofs.read.NotedNodes.is_sound.Goals as goal
 pub returns : goal.returns
 unfolding sound has_none meant bit
 returns c =
-    let f = c.facts_at-f.result in
-    ap₂ (λ (a b : Bool). not (bit f.marks 2) && ((not (bit f.marks 3) || a) && (not (bit f.marks 4) || b))) c.is_empty.ensures
+    let m = c.facts_at-f.result.marks.0 in
+    rw (c.has-broken.ensures, c.has-binds.ensures, c.has-unclosed.ensures)
+    (ap₂ (λ (a b : Bool). not (bit m 2) && ((not (bit m 3) || a) && (not (bit m 4) || b))) c.is_empty.ensures
     (c.is_empty-2.ensures ∙ ap has_none c.sub-unknown.ensures)
     ∙ ap (λ (k : Known). sound k.broken k.binds k.unclosed k.free (mem c.args.words) (mem c.args.scope))
-    (noted c.args.self.now.noted c.requires.0 c.requires.1 c.facts_at-f.ensures)
+    (noted c.args.self.now.noted c.requires.0 c.requires.1 c.facts_at-f.ensures))
 
 pub facts_at-f-requires : goal.facts_at-f-requires
 facts_at-f-requires c = let l = c.requires.0 in let f = c.args.self.now.noted.fits in omega arith
