@@ -15,7 +15,7 @@ use names::Names;
 use owed::{asked_first, check_own_demands, tied_first, tied_second};
 use paper::NodeNo;
 use rows::read::is_met;
-use slots::without_binders;
+use slots::binder_names;
 use views::{Below, Operand, below_at, operand_at};
 
 // The entries of a condition and of what lies below it. Where all that is needed is tied, nothing is entered.
@@ -82,7 +82,8 @@ pub fn descend_nested_chains(
             descend_nested_chains(columns, rows, r, tied, out, p)
         }
         Operand::Aggregate(binders, body) => {
-            let inner = without_binders(columns, tied, binders);
+            let own = binder_names(columns, binders);
+            let inner = tied - own;
             check_chain(columns, rows, body, inner, true, out, at)
         }
         _ => at,

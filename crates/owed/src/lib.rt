@@ -16,7 +16,7 @@ use known::Facts;
 use names::Names;
 use paper::{Equality, NodeNo};
 use rows::read::{collect_free, collect_range_restricted, collect_term_var};
-use slots::without_slot;
+use slots::slot_name;
 use vars::eq_restricted_var;
 use views::{Owing, owing_at};
 use writes::emit;
@@ -143,7 +143,10 @@ pub fn tied_first(columns: &[u64; 513], rows: &[Facts], i: NodeNo, tied: Names) 
             let given = collect_range_restricted(columns, rows, r);
             tied | given
         }
-        Owing::Exists(slot) => without_slot(tied, slot),
+        Owing::Exists(slot) => {
+            let own = slot_name(slot);
+            tied - own
+        }
         _ => tied,
     }
 }

@@ -12,7 +12,7 @@ use crate::nested::reject_nested_agg;
 use known::Facts;
 use names::Names;
 use paper::NodeNo;
-use slots::with_slot;
+use slots::slot_name;
 use views::{Itself, itself_at};
 
 // 22 and 23 at an exists, 22 at a tp, 20 and 21 in the arguments of a predicate.
@@ -42,7 +42,10 @@ pub fn scope_first(columns: &[u64; 513], i: NodeNo, scope: Names) -> Names
     ensures { mem result ≡ scope_first (condition_of columns.now i.0) (mem scope) }
 {
     match itself_at(columns, i) {
-        Itself::Exists(slot, _) => with_slot(scope, slot),
+        Itself::Exists(slot, _) => {
+            let own = slot_name(slot);
+            scope | own
+        }
         _ => scope,
     }
 }

@@ -17,7 +17,7 @@ use paper::NodeNo;
 use places::itself::{check_itself, scope_first};
 use places::nested::reject_nested_agg;
 use rows::read::is_sound;
-use slots::with_binders;
+use slots::binder_names;
 use views::{Below, Operand, below_at, operand_at};
 
 // The entries of a condition and of what lies below it, with these names in scope and these reserved. Where there are none, nothing is entered.
@@ -83,7 +83,8 @@ pub fn check_operand(
         }
         Operand::Aggregate(binders, body) => {
             let p = check_agg_expr(columns, rows, i, scope, words, out, at);
-            let inner = with_binders(columns, scope, binders);
+            let own = binder_names(columns, binders);
+            let inner = scope | own;
             check_condition(columns, rows, body, inner, words, out, p)
         }
         Operand::Array(items) => reject_nested_agg(columns, items, out, at),
