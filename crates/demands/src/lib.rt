@@ -14,7 +14,7 @@ use names::Names;
 use owed::{asked_first, check_own_demands, tied_first, tied_second};
 use paper::NodeNo;
 use rows::read::NotedNodes;
-use slots::without_binders;
+use slots::binder_names;
 use views::{Below, Operand, below_at, operand_at};
 use writes::Entries;
 
@@ -67,7 +67,8 @@ pub fn descend_nested_chains(nodes: &NotedNodes, i: NodeNo, tied: Names, entries
             descend_nested_chains(nodes, r, tied, entries);
         }
         Operand::Aggregate(binders, body) => {
-            let inner = without_binders(nodes.columns, tied, binders);
+            let own = binder_names(nodes.columns, binders);
+            let inner = tied - own;
             check_chain(nodes, body, inner, true, entries);
         }
         _ => {}

@@ -97,7 +97,7 @@ pub from_last : {columns : List ℕ} {before after : List Facts} {i : ℕ} → L
 from_last p g = let l = p.0 in (l.has, all_noted l.has.0 g l.all p.1, last_body l.has l.all)
 
 -- and the rows were all the same before
-pub from_cleared : (row : List ℕ) {columns : List ℕ} {after : List (List ℕ)} {i rows : ℕ} → Last columns i × (i < rows) → Gathered columns (replicate rows row) after i
+pub from_cleared : (row : Facts) {columns : List ℕ} {after : List Facts} {i rows : ℕ} → Last columns i × (i < rows) → Gathered columns (replicate rows row) after i
     → Has columns i × Noted columns after × (is_condition (tree_of columns i) ≡ true)
 from_cleared row {rows = rows} p g = from_last (p.0, omega (arith, p.1, length-replicate rows row)) g
 

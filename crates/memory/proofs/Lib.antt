@@ -9,6 +9,5 @@ pub mod HeadLaws
 pub mod EndLaws
 pub mod NameLaws
 pub mod NodeLaws
-pub mod ViewLaws
 pub mod Reached
 pub mod ReadLaws

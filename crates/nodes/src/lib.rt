@@ -8,7 +8,7 @@ ghost use Rattle.memory.specs.Columns.{told_by, numbers_in};
 use memory::{Numbers, PLACE_0, PLACE_1, PLACE_2, PLACE_3, PLACE_4};
 use paper::{NameNo, Node, NodeNo, Slot};
 
-pub fn lower(x: u16) -> u8
+fn lower(x: u16) -> u8
     ensures { result ≡ x % 256 }
 {
     (x % 256) as u8
@@ -31,7 +31,7 @@ fn slot_of(sort: u8, number: u8) -> Slot
 }
 
 // A slot's sort is the lower byte, its number the upper one.
-pub fn slot_in(x: u16) -> Slot
+fn slot_in(x: u16) -> Slot
     ensures { result ≡ slot_of (x % 256) (x / 256) }
 {
     let sort = lower(x);
@@ -39,14 +39,14 @@ pub fn slot_in(x: u16) -> Slot
     slot_of(sort, number)
 }
 
-pub fn kind_in(word: u64) -> u16
+fn kind_in(word: u64) -> u16
     ensures { result ≡ word % 0x10000 }
 {
     (word % 0x10000) as u16
 }
 
 // The two bytes that come lowest when a word is divided by a power of 256: the compiler makes a shift of it.
-pub fn number_in(word: u64, past: u64) -> u16
+fn number_in(word: u64, past: u64) -> u16
     requires { 0 < past }
     ensures { result ≡ word / past % 0x10000 }
 {

@@ -15,7 +15,7 @@ ghost use Rattle.owed.specs.Demanded.{place_below, FirstAsked, owed, owed_compar
 use names::Names;
 use paper::{Equality, NodeNo};
 use rows::read::NotedNodes;
-use slots::without_slot;
+use slots::slot_name;
 use vars::eq_restricted_var;
 use views::{Owing, owing_at};
 use writes::Entries;
@@ -115,7 +115,10 @@ pub fn tied_first(nodes: &NotedNodes, i: NodeNo, tied: Names) -> Names
             let given = nodes.collect_range_restricted(r);
             tied | given
         }
-        Owing::Exists(slot) => without_slot(tied, slot),
+        Owing::Exists(slot) => {
+            let own = slot_name(slot);
+            tied - own
+        }
         _ => tied,
     }
 }

@@ -12,7 +12,7 @@ use crate::nested::reject_nested_agg;
 use names::Names;
 use paper::NodeNo;
 use rows::read::NotedNodes;
-use slots::with_slot;
+use slots::slot_name;
 use views::{Itself, itself_at};
 use writes::Entries;
 
@@ -36,7 +36,10 @@ pub fn scope_first(columns: &[u64; 513], i: NodeNo, scope: Names) -> Names
     ensures { mem result ≡ scope_first (condition_of columns.now i.0) (mem scope) }
 {
     match itself_at(columns, i) {
-        Itself::Exists(slot, _) => with_slot(scope, slot),
+        Itself::Exists(slot, _) => {
+            let own = slot_name(slot);
+            scope | own
+        }
         _ => scope,
     }
 }

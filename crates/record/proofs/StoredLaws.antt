@@ -44,13 +44,7 @@ node_stored bytes starts s i h = ap (node_from bytes) (s.starts_are i h) ∙ sym
 pub few : {columns : List ℕ} {i : ℕ} → Has columns i → i < 512
 few h = let z = h.0.formed.few_nodes in let l = h.1 in omega arith
 
--- a node that is held, by its kind's number
-pub said : {columns : List ℕ} {i w kind n : ℕ} → Has columns i → w ≡ get_or columns i 0 → kind ≡ w % 0x10000 → kind ≡ n
-    → get_or (held columns) i ListEnd ≡ node_told n (places_in w)
-said {columns} {i} {w} h p q e =
-    held_at columns i h.1 ∙ ap (λ (x : ℕ). node_told (x % 0x10000) (places_in x)) (sym p) ∙ ap (λ (k : ℕ). node_told k (places_in w)) (sym q ∙ e)
-
--- the reader's starts are those of the bytes
+-- the reader's arena holds the bytes
 pub read_stored : (bytes : List ℕ) (r : Reading) → Read bytes r → Stored bytes r.arena.starts
 unfolding contents_of
 read_stored bytes r p = record { starts_are = λ i h. go (read bytes) refl i h }

@@ -16,7 +16,7 @@ use paper::NodeNo;
 use places::itself::{check_itself, scope_first};
 use places::nested::reject_nested_agg;
 use rows::read::NotedNodes;
-use slots::with_binders;
+use slots::binder_names;
 use views::{Below, Operand, below_at, operand_at};
 use writes::Entries;
 
@@ -79,7 +79,8 @@ pub fn check_operand(
         }
         Operand::Aggregate(binders, body) => {
             check_agg_expr(nodes, i, scope, words, entries);
-            let inner = with_binders(nodes.columns, scope, binders);
+            let own = binder_names(nodes.columns, binders);
+            let inner = scope | own;
             check_condition(nodes, body, inner, words, entries);
         }
         Operand::Array(items) => reject_nested_agg(nodes.columns, items, entries),

@@ -4,7 +4,6 @@
 ghost use Rattle.std.specs.Prelude.{◌≡◌, get_or};
 ghost use Rattle.std.specs.Iterator.{YieldsFirst, item_count};
 ghost use Rattle.paper.specs.declared.Node.TheVariants.{ListEnd};
-ghost use Rattle.paper.specs.Sets.{◌∪◌, ◌∖◌};
 ghost use Rattle.paper.specs.FreeAndRestricted.{named, is_sigil, binder_names};
 ghost use Rattle.paper.specs.Scoping.{binder_sigil};
 ghost use Rattle.names.specs.Words.{mem};
@@ -35,24 +34,6 @@ pub fn slot_name(slot: Slot) -> Names
         Slot::Name(x) => Names::single(x),
         _ => Names::empty(),
     }
-}
-
-// The names, and that of a slot.
-pub fn with_slot(others: Names, slot: Slot) -> Names
-    requires { Tabled slot }
-    ensures { mem result ≡ mem others ∪ named slot }
-{
-    let name = slot_name(slot);
-    others | name
-}
-
-// The names, without that of a slot.
-pub fn without_slot(others: Names, slot: Slot) -> Names
-    requires { Tabled slot }
-    ensures { mem result ≡ mem others ∖ named slot }
-{
-    let name = slot_name(slot);
-    others - name
 }
 
 // The slot of a cell and the rest of its list, if there is a cell.
@@ -109,22 +90,4 @@ pub fn binder_names(columns: &[u64; 513], i: NodeNo) -> Names
         own = own | name;
     }
     own
-}
-
-// The names, and those of an aggregate's binders.
-pub fn with_binders(columns: &[u64; 513], others: Names, i: NodeNo) -> Names
-    requires { Has columns.now i.0 }
-    ensures { mem result ≡ mem others ∪ binder_names (binders_of columns.now i.0) }
-{
-    let own = binder_names(columns, i);
-    others | own
-}
-
-// The names, without those of an aggregate's binders.
-pub fn without_binders(columns: &[u64; 513], others: Names, i: NodeNo) -> Names
-    requires { Has columns.now i.0 }
-    ensures { mem result ≡ mem others ∖ binder_names (binders_of columns.now i.0) }
-{
-    let own = binder_names(columns, i);
-    others - own
 }

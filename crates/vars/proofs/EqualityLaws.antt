@@ -21,12 +21,10 @@ use Rattle.paper.specs.Tree.{Term, Tree, as_term, planted}
 use Rattle.paper.specs.FreeAndRestricted.{has_wildcard, items_wildcard, bare, unless, by_bare, equality}
 use Rattle.paper.proofs.Walks.{All}
 use Rattle.paper.proofs.Equalities.{no_name, Means, means}
-use Rattle.memory.specs.Columns.{node_told}
-use Rattle.memory.proofs.Unnamed.{Away, Rest, rest_away, by_number}
 use Rattle.record.specs.Stored.{held, Has}
 use Rattle.trees.specs.Trees.{tree_of, term_of, in_terms}
 use Rattle.trees.proofs.Arms.{Arm, arm}
-use Rattle.trees.proofs.ByKind.{term_cases, in_terms_cases}
+use Rattle.trees.proofs.ByKind.{by_kind, term_cases, in_terms_cases}
 use Rattle.trees.proofs.Joins.{JoinsTerms}
 use Rattle.trees.specs.Terms.{arguments_wildcard, wildcard_in, TabledTied}
 
@@ -112,20 +110,22 @@ no_wildcard t n =
     (λ y h. refl) (λ f x l h. absurd (miss no_wildcard_kinds 26 tt h)) (λ x l h. absurd (miss no_wildcard_kinds 27 tt h)) (λ m e h. refl)
 
 -- no variable
-pub not_bare : (t : ℕ → Tree) (n : NodeNo) (k : ℕ) (ps : List ℕ) → Rest (0x20 ∷ []) k (Unit {0}) → bare (as_term (planted t n (node_told k ps))) ≡ None
-unfolding node_told planted as_term bare Away
-not_bare t n k ps rest =
-    by_number (λ m. bare (as_term (planted t n m)) ≡ None) (0x20 ∷ []) k ps
-    ((λ a. refl), ((λ a. refl), ((λ a. refl), ((λ a. refl), ((λ a. refl), ((λ a. refl), ((λ a. refl), ((λ a. refl), ((λ a. refl), ((λ a. refl), ((λ a. refl), ((λ a. refl), ((λ a. refl), ((λ a. absurd (a.0 refl)), ((λ a. refl), ((λ a. refl), ((λ a. refl), ((λ a. refl), ((λ a. refl), ((λ a. refl), ((λ a. refl), ((λ a. refl), ((λ a. refl), ((λ a. refl), ((λ a. refl), ((λ a. refl), ((λ a. refl), ((λ a. refl), tt))))))))))))))))))))))))))))
-    refl (rest_away (0x20 ∷ []) k (Unit {0}) rest).1
+pub not_bare : (t : ℕ → Tree) (n : NodeNo) (m : Node) → ((x : NameNo) → m ≡ node.Var x → ⊥) → bare (as_term (planted t n m)) ≡ None
+unfolding planted as_term bare
+not_bare t n =
+    by_kind (λ m. ((x : NameNo) → m ≡ node.Var x → ⊥) → bare (as_term (planted t n m)) ≡ None)
+    (λ l r h. refl) (λ l r h. refl) (λ b h. refl) (λ b w h. refl) (λ b w h. refl) (λ l r w h. refl) (λ s y b h. refl) (λ o l r h. refl)
+    (λ a l h. refl) (λ b l h. refl) (λ s h. refl) (λ y h. refl) (λ y h. refl) (λ x h. absurd (h x refl)) (λ h. refl) (λ y h. refl) (λ y h. refl)
+    (λ y h. refl) (λ k h. refl) (λ k h. refl) (λ l h. refl) (λ o l r h. refl) (λ s l b h. refl) (λ l b h. refl) (λ y h. refl) (λ h. refl)
+    (λ f x l h. refl) (λ x l h. refl) (λ s y l h. refl)
 
 -- no wildcard and no arithmetic
-abbrev open_kinds : List ℕ
-open_kinds = 0x21 ∷ 0x28 ∷ []
-
-pub unless_other : (t : ℕ → Tree) (n : NodeNo) (gives : Equality) (k : ℕ) (ps : List ℕ) → Rest open_kinds k (Unit {0}) → unless (as_term (planted t n (node_told k ps))) gives ≡ gives
-unfolding node_told planted as_term unless Away
-unless_other t n gives k ps rest =
-    by_number (λ m. unless (as_term (planted t n m)) gives ≡ gives) open_kinds k ps
-    ((λ a. refl), ((λ a. refl), ((λ a. refl), ((λ a. refl), ((λ a. refl), ((λ a. refl), ((λ a. refl), ((λ a. refl), ((λ a. refl), ((λ a. refl), ((λ a. refl), ((λ a. refl), ((λ a. refl), ((λ a. refl), ((λ a. absurd (a.0 refl)), ((λ a. refl), ((λ a. refl), ((λ a. refl), ((λ a. refl), ((λ a. refl), ((λ a. refl), ((λ a. absurd (a.1.0 refl)), ((λ a. refl), ((λ a. refl), ((λ a. refl), ((λ a. refl), ((λ a. refl), ((λ a. refl), tt))))))))))))))))))))))))))))
-    refl (rest_away open_kinds k (Unit {0}) rest).1
+pub unless_other : (t : ℕ → Tree) (n : NodeNo) (gives : Equality) (m : Node) → (m ≡ node.Wildcard → ⊥) → ((o : ℕ) (l r : NodeNo) → m ≡ node.Arith o l r → ⊥)
+    → unless (as_term (planted t n m)) gives ≡ gives
+unfolding planted as_term unless
+unless_other t n gives =
+    by_kind (λ m. (m ≡ node.Wildcard → ⊥) → ((o : ℕ) (l r : NodeNo) → m ≡ node.Arith o l r → ⊥) → unless (as_term (planted t n m)) gives ≡ gives)
+    (λ l r h g. refl) (λ l r h g. refl) (λ b h g. refl) (λ b w h g. refl) (λ b w h g. refl) (λ l r w h g. refl) (λ s y b h g. refl)
+    (λ o l r h g. refl) (λ a l h g. refl) (λ b l h g. refl) (λ s h g. refl) (λ y h g. refl) (λ y h g. refl) (λ x h g. refl) (λ h g. absurd (h refl))
+    (λ y h g. refl) (λ y h g. refl) (λ y h g. refl) (λ k h g. refl) (λ k h g. refl) (λ l h g. refl) (λ o l r h g. absurd (g o l r refl))
+    (λ s l b h g. refl) (λ l b h g. refl) (λ y h g. refl) (λ h g. refl) (λ f x l h g. refl) (λ x l h g. refl) (λ s y l h g. refl)

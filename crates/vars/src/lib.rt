@@ -7,10 +7,8 @@ ghost use Rattle.record.specs.Stored.{Has};
 ghost use Rattle.trees.specs.Trees.{tree_of, term_of};
 ghost use Rattle.trees.specs.Terms.{wildcard_in};
 
-use memory::PLACE_0;
-use nodes::{kind_in, lower, number_in};
 use paper::{Equality, NameNo, Node, NodeNo, Reason};
-use record::access::{node_at, word_at};
+use record::access::node_at;
 
 // Of a term, or of the terms of a list.
 pub fn term_contains_wildcard(columns: &[u64; 513], i: NodeNo) -> bool
@@ -33,9 +31,8 @@ pub fn bare_var(columns: &[u64; 513], i: NodeNo) -> Option<NameNo>
     requires { Has columns.now i.0 }
     ensures { result ≡ bare (term_of columns.now i.0) }
 {
-    let word = word_at(columns, i);
-    match kind_in(word) {
-        0x20 => Some(NameNo(lower(number_in(word, PLACE_0)))),
+    match node_at(columns, i) {
+        Node::Var(x) => Some(x),
         _ => None,
     }
 }
@@ -45,11 +42,10 @@ fn unless(columns: &[u64; 513], i: NodeNo, gives: Equality) -> Equality
     requires { Has columns.now i.0 }
     ensures { result ≡ unless (term_of columns.now i.0) gives }
 {
-    let word = word_at(columns, i);
     // A wildcard has no value, and arithmetic has none over a wildcard.
-    match kind_in(word) {
-        0x21 => Equality::Nothing(Reason::Wildcard),
-        0x28 => {
+    match node_at(columns, i) {
+        Node::Wildcard => Equality::Nothing(Reason::Wildcard),
+        Node::Arith(_, _, _) => {
             if term_contains_wildcard(columns, i) {
                 Equality::Nothing(Reason::Arithmetic)
             } else {

@@ -1,5 +1,6 @@
 -- `check_chain` and `descend_nested_chains` write what is demanded from a condition and from an operand on. What each arm writes goes by the law of its kind.
-use Rattle.std.proofs.Common.{refl, sym, ◌∙◌}
+use Rattle.paper.specs.Sets.{◌∖◌}
+use Rattle.std.proofs.Common.{refl, sym, ◌∙◌, ap₂}
 use Rattle.known.proofs.RowLaws.{under_body, under_term}
 use Rattle.trees.proofs.Shapes.{of_aggregate}
 use Rattle.views.proofs.EnteredLaws.{entered}
@@ -93,15 +94,15 @@ descend_nested_chains-descend_nested_chains-requires-in-Arith t c =
     let d = under_term a.children.1.0 c.decreases in
     (d.0, (d.1, room_after _ _ c.descend_nested_chains.ensures (room_is (operand_arith _ a) c.requires.room)))
 
-pub descend_nested_chains-without_binders-inner-requires : goal.descend_nested_chains-without_binders-inner-requires
-descend_nested_chains-without_binders-inner-requires t c =
+pub descend_nested_chains-binder_names-own-requires : goal.descend_nested_chains-binder_names-own-requires
+descend_nested_chains-binder_names-own-requires t c =
     let g = operand_told c.in-Aggregate.ensures (held_arm c.requires.has.0) in (of_aggregate g.1 g.2).0.has
 
 pub descend_nested_chains-check_chain-requires : goal.descend_nested_chains-check_chain-requires
 descend_nested_chains-check_chain-requires t c =
     let g = operand_told c.in-Aggregate.ensures (held_arm c.requires.has.0) in
     let d = under_body (of_aggregate g.1 g.2).1 c.decreases in
-    (d.0, (d.1, room_is (operand_aggregate _ g.1 g.2 c.without_binders-inner.ensures) c.requires.room))
+    (d.0, (d.1, room_is (operand_aggregate _ g.1 g.2 (c.sub-inner.ensures ∙ ap₂ ◌∖◌ refl c.binder_names-own.ensures)) c.requires.room))
 
 pub descend_nested_chains-returns-in-Arith : goal.descend_nested_chains-returns-in-Arith
 descend_nested_chains-returns-in-Arith t c =
@@ -110,7 +111,7 @@ descend_nested_chains-returns-in-Arith t c =
 pub descend_nested_chains-returns-in-Aggregate : goal.descend_nested_chains-returns-in-Aggregate
 descend_nested_chains-returns-in-Aggregate t c =
     let g = operand_told c.in-Aggregate.ensures (held_arm c.requires.has.0) in
-    added_is (operand_aggregate _ g.1 g.2 c.without_binders-inner.ensures) c.check_chain.ensures
+    added_is (operand_aggregate _ g.1 g.2 (c.sub-inner.ensures ∙ ap₂ ◌∖◌ refl c.binder_names-own.ensures)) c.check_chain.ensures
 
 pub descend_nested_chains-returns-in_default : goal.descend_nested_chains-returns-in_default
 descend_nested_chains-returns-in_default t c =

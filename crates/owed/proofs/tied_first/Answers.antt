@@ -1,4 +1,6 @@
 -- `tied_first` gives what is tied at the first place below a condition.
+use Rattle.paper.specs.Sets.{◌∖◌}
+use Rattle.std.proofs.Common.{ap₂, refl}
 use mathlib.Core.Path.{◌≡◌, sym, ◌∙◌}
 use borrow.Enum.Refused.{opened}
 use Rattle.slots.proofs.SlotLaws.{slot_tabled}
@@ -18,14 +20,14 @@ owing_at-requires c = c.requires
 pub collect_range_restricted-given-requires : goal.collect_range_restricted-given-requires
 collect_range_restricted-given-requires c = body_row (told (goal.at.collect_range_restricted-given-requires c).After-owing_at c.in-Since.is).1.children.1.0
 
-pub without_slot-requires : goal.without_slot-requires
-without_slot-requires c = slot_tabled c.in-Exists.slot (told (goal.at.without_slot-requires c).After-owing_at c.in-Exists.is).2.tabled
+pub slot_name-own-requires : goal.slot_name-own-requires
+slot_name-own-requires c = slot_tabled c.in-Exists.slot (told (goal.at.slot_name-own-requires c).After-owing_at c.in-Exists.is).2.tabled
 
 pub returns-in-Since : goal.returns-in-Since
 returns-in-Since c = first_since _ (told (goal.at.returns-in-Since c).After-owing_at c.in-Since.is).1 c.collect_range_restricted-given.ensures c.bitor.ensures
 
 pub returns-in-Exists : goal.returns-in-Exists
-returns-in-Exists c = first_exists _ (told (goal.at.returns-in-Exists c).After-owing_at c.in-Exists.is).2 c.without_slot.ensures
+returns-in-Exists c = first_exists _ (told (goal.at.returns-in-Exists c).After-owing_at c.in-Exists.is).2 (c.sub.ensures ∙ ap₂ ◌∖◌ refl c.slot_name-own.ensures)
 
 pub returns-in_default : goal.returns-in_default
 returns-in_default c = first_same c.owing_at.ensures (held_arm c.requires) _ (opened c.in_default.in_default-own.keys3)

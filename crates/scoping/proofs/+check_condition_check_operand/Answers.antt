@@ -1,5 +1,6 @@
 -- `check_condition` and `check_operand` write the entries of 20 to 27.
-use Rattle.std.proofs.Common.{refl, sym, ◌∙◌, rules}
+use Rattle.paper.specs.Sets.{◌∪◌}
+use Rattle.std.proofs.Common.{refl, sym, ◌∙◌, rules, ap₂}
 use Rattle.names.specs.Words.{mem}
 use Rattle.names.proofs.ApartLaws.{empty_everywhere}
 use Rattle.known.proofs.RowLaws.{under_body, under_term}
@@ -99,8 +100,8 @@ check_operand-check_agg_expr-requires-clause-room t c =
     let n = not_skipped _ (mem c.args.words) (mem c.args.scope) c.requires.has.1 (sym c.is_sound.ensures ∙ c.if-is_sound.false) in
     room_first _ _ (room_is (scoped_aggregate _ _ g.1 refl g.2 n) c.requires.room)
 
-pub check_operand-with_binders-inner-requires : goal.check_operand-with_binders-inner-requires
-check_operand-with_binders-inner-requires t c =
+pub check_operand-binder_names-own-requires : goal.check_operand-binder_names-own-requires
+check_operand-binder_names-own-requires t c =
     let g = operand_told c.in-Aggregate.ensures (held_arm c.requires.has.0) in (of_aggregate g.1 g.2).0.has
 
 pub check_operand-check_condition-requires : goal.check_operand-check_condition-requires
@@ -108,7 +109,7 @@ check_operand-check_condition-requires t c =
     let g = operand_told c.in-Aggregate.ensures (held_arm c.requires.has.0) in
     let n = not_skipped _ (mem c.args.words) (mem c.args.scope) c.requires.has.1 (sym c.is_sound.ensures ∙ c.if-is_sound.false) in
     let d = under_body (of_aggregate g.1 g.2).1 c.decreases in
-    (d.0, (d.1, room_after _ _ c.check_agg_expr.ensures (room_is (scoped_aggregate _ _ g.1 c.with_binders-inner.ensures g.2 n) c.requires.room)))
+    (d.0, (d.1, room_after _ _ c.check_agg_expr.ensures (room_is (scoped_aggregate _ _ g.1 (c.bitor-inner.ensures ∙ ap₂ ◌∪◌ refl c.binder_names-own.ensures) g.2 n) c.requires.room)))
 
 pub check_operand-reject_nested_agg-requires-clause-has : goal.check_operand-reject_nested_agg-requires-clause-has
 check_operand-reject_nested_agg-requires-clause-has t c = (operand_told c.in-Array.ensures (held_arm c.requires.has.0)).children.0.has
@@ -124,7 +125,7 @@ pub check_operand-returns-in-Aggregate : goal.check_operand-returns-in-Aggregate
 check_operand-returns-in-Aggregate t c =
     let g = operand_told c.in-Aggregate.ensures (held_arm c.requires.has.0) in
     let n = not_skipped _ (mem c.args.words) (mem c.args.scope) c.requires.has.1 (sym c.is_sound.ensures ∙ c.if-is_sound.false) in
-    added_is (scoped_aggregate _ _ g.1 c.with_binders-inner.ensures g.2 n) (added_then c.check_agg_expr.ensures c.check_condition.ensures)
+    added_is (scoped_aggregate _ _ g.1 (c.bitor-inner.ensures ∙ ap₂ ◌∪◌ refl c.binder_names-own.ensures) g.2 n) (added_then c.check_agg_expr.ensures c.check_condition.ensures)
 
 pub check_operand-returns-in-Array : goal.check_operand-returns-in-Array
 check_operand-returns-in-Array t c =

@@ -1,4 +1,6 @@
 -- `scope_first` gives what is in scope at the first place below a condition.
+use Rattle.paper.specs.Sets.{◌∪◌}
+use Rattle.std.proofs.Common.{ap₂, refl}
 use mathlib.Core.Path.{◌≡◌, sym, ◌∙◌}
 use borrow.Enum.Refused.{opened}
 use Rattle.slots.proofs.SlotLaws.{slot_tabled}
@@ -14,11 +16,11 @@ told c p = itself_told (sym p ∙ c.itself_at.ensures) (held_arm c.requires)
 pub itself_at-requires : goal.itself_at-requires
 itself_at-requires c = c.requires
 
-pub with_slot-requires : goal.with_slot-requires
-with_slot-requires c = slot_tabled c.in-Exists.slot (told (goal.at.with_slot-requires c).After-itself_at c.in-Exists.is).1.tabled
+pub slot_name-own-requires : goal.slot_name-own-requires
+slot_name-own-requires c = slot_tabled c.in-Exists.slot (told (goal.at.slot_name-own-requires c).After-itself_at c.in-Exists.is).1.tabled
 
 pub returns-in-Exists : goal.returns-in-Exists
-returns-in-Exists c = first_exists _ (told (goal.at.returns-in-Exists c).After-itself_at c.in-Exists.is).1 c.with_slot.ensures
+returns-in-Exists c = first_exists _ (told (goal.at.returns-in-Exists c).After-itself_at c.in-Exists.is).1 (c.bitor.ensures ∙ ap₂ ◌∪◌ refl c.slot_name-own.ensures)
 
 pub returns-in_default : goal.returns-in_default
 returns-in_default c = first_same _ c.itself_at.ensures (held_arm c.requires) (opened c.in_default.in_default-own.keys2)
