@@ -48,7 +48,8 @@ fn check_aggregation(
     emit_cells(nodes.columns, binders, 27, untied, entries);
 }
 
-// The same of the aggregate that a node is.
+// The same of the aggregate that a node is. Each arm has its call: one call over a tuple of what they give is no plainer, since its proof goes by
+// names that the check makes up for the tuple's parts.
 pub fn check_agg_expr(
     nodes: &NotedNodes,
     i: NodeNo,

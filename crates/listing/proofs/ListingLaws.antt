@@ -4,7 +4,7 @@ use mathlib.Core.Path.{◌≡◌, refl, sym, ap, subst}
 use mathlib.Core.Bool.{Bool, true, false, ◌&&◌, ◌||◌}
 use mathlib.Core.List.{List, [], ◌∷◌, ◌++◌}
 use native.Mathlib.Omega.{arith}
-use lib.ListN.{length, replicate, length-replicate}
+use lib.ListN.{length}
 use Rattle.paper.specs.declared.Finding.{Finding}
 use Rattle.writes.specs.Written.{Wrote}
 use Rattle.paper.specs.declared.NodeNo.{NodeNo}
@@ -95,11 +95,6 @@ module _ (t : Tree) (n : NodeNo) (is : is_condition t ≡ true) where
 pub from_last : {columns : List ℕ} {before after : List Facts} {i : ℕ} → Last columns i × (i < length before) → Gathered columns before after i
     → Has columns i × Noted columns after × (is_condition (tree_of columns i) ≡ true)
 from_last p g = let l = p.0 in (l.has, all_noted l.has.0 g l.all p.1, last_body l.has l.all)
-
--- and the rows were all the same before
-pub from_cleared : (row : Facts) {columns : List ℕ} {after : List Facts} {i rows : ℕ} → Last columns i × (i < rows) → Gathered columns (replicate rows row) after i
-    → Has columns i × Noted columns after × (is_condition (tree_of columns i) ≡ true)
-from_cleared row {rows = rows} p g = from_last (p.0, omega (arith, p.1, length-replicate rows row)) g
 
 pub in_all_rows : {columns : List ℕ} {i : ℕ} → Last columns i → i < 512
 in_all_rows l = few l.has

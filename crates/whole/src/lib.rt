@@ -45,8 +45,32 @@ fn list_counted(nodes: &NotedNodes, i: NodeNo, words: Names, out: &mut [u32]) ->
     list_into(nodes, i, words, out)
 }
 
-// None where the root is clean; written at once where so many entries fit, since there are no more of them. So many rows are enough.
-fn list_noted<const ROWS: usize>(
+// None where the root is clean; written at once where so many entries fit, since there are no more of them.
+fn list_noted(
+    columns: &[u64; 513],
+    i: NodeNo,
+    words: Names,
+    most: usize,
+    rows: &mut [Facts],
+    out: &mut [u32],
+) -> usize
+    requires last { Last columns.now i.0 × (i.0 < length rows.old) }
+    requires room { Room (listed (mem words) i (condition_of columns.now i.0)) 0 × (length (listed (mem words) i (condition_of columns.now i.0)) ≤ most) }
+    ensures { Filled (listed (mem words) i (condition_of columns.now i.0)) result out.old out.new }
+{
+    collect_facts(columns, rows, i);
+    let nodes = NotedNodes { columns, rows };
+    if is_clean(&nodes, i, words) {
+        return 0;
+    }
+    if most <= out.len() {
+        return list_into(&nodes, i, words, out);
+    }
+    list_counted(&nodes, i, words, out)
+}
+
+// The same, where so many rows are enough.
+fn list_over<const ROWS: usize>(
     columns: &[u64; 513],
     i: NodeNo,
     words: Names,
@@ -59,18 +83,7 @@ fn list_noted<const ROWS: usize>(
     ensures { Filled (listed (mem words) i (condition_of columns.now i.0)) result out.old out.new }
 {
     let mut rows = [Facts::default(); ROWS];
-    collect_facts(columns, &mut rows, i);
-    let nodes = NotedNodes {
-        columns,
-        rows: &rows,
-    };
-    if is_clean(&nodes, i, words) {
-        return 0;
-    }
-    if most <= out.len() {
-        return list_into(&nodes, i, words, out);
-    }
-    list_counted(&nodes, i, words, out)
+    list_noted(columns, i, words, most, &mut rows, out)
 }
 
 // The entries of the whole list, and how many they are, where there are at most so many. Few nodes take few rows, since rows have to be cleared.
@@ -86,13 +99,13 @@ pub fn list_entries(
     ensures { Filled (listed (mem words) i (condition_of columns.now i.0)) result out.old out.new }
 {
     if i.0 < 32 {
-        return list_noted::<32>(columns, i, words, most, out);
+        return list_over::<32>(columns, i, words, most, out);
     }
     if i.0 < 128 {
-        return list_noted::<128>(columns, i, words, most, out);
+        return list_over::<128>(columns, i, words, most, out);
     }
     if i.0 < 256 {
-        return list_noted::<256>(columns, i, words, most, out);
+        return list_over::<256>(columns, i, words, most, out);
     }
-    list_noted::<512>(columns, i, words, most, out)
+    list_over::<512>(columns, i, words, most, out)
 }

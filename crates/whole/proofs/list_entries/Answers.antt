@@ -2,5 +2,5 @@
 use Rattle.listing.proofs.ListingLaws.{in_all_rows}
 use Rattle.whole.proofs.list_entries.Goals as goal
 
-pub list_noted-requires-2-clause-last : goal.list_noted-requires-2-clause-last
-list_noted-requires-2-clause-last c = (c.requires.last, in_all_rows c.requires.last)
+pub list_over-requires-2-clause-last : goal.list_over-requires-2-clause-last
+list_over-requires-2-clause-last c = (c.requires.last, in_all_rows c.requires.last)
