@@ -10,7 +10,6 @@ use Rattle.std.specs.Prelude.{Result}
 use Rattle.paper.specs.declared.Counts.{Counts}
 use Rattle.paper.specs.declared.Refusal.{Refusal}
 use Rattle.paper.specs.Questions.{Answer, Arithmetic, Listing}
-use Rattle.record.specs.Arena.{said_by}
 use Rattle.record.proofs.reader.read.Reads as reader
 use Rattle.record.proofs.reader.read.Kinds as of_reader
 use Rattle.record.proofs.access.name.Reads as name
@@ -50,7 +49,7 @@ list_coincides κs a x y e f p q = p.0 ∙ sym q.0
 pub buffer_coincides : Decides 2 of_list.ps of_list.r list.Post (List ℕ) (λ κs x e. e.1.0.now)
 buffer_coincides κs a x y e f p q = p.1 ∙ sym q.1
 
-pub verdict_coincides : Decides 1 of_reader.ps of_reader.r reader.Post (Result Counts Refusal) (λ κs x e. said_by x)
+pub verdict_coincides : Decides 1 of_reader.ps of_reader.r reader.Post (Result Counts Refusal) (λ κs x e. x.verdict)
 verdict_coincides κs a x y e f p q = p.said ∙ sym q.said
 
 -- the bytes of the name

@@ -28,7 +28,6 @@ use Rattle.paper.proofs.Cases.{case_b, case_c, case_f, case_full, scoping_b, sco
 use Rattle.paper.proofs.Cases.{told, finds, at, as_told, told_b, told_c, told_f, told_full, lent}
 use Rattle.paper.proofs.Answers.{list_success, list_writes}
 use Rattle.names.specs.Words.{mem}
-use Rattle.record.specs.Arena.{said_by}
 use Rattle.record.proofs.reader.read.Reads as reader
 use Rattle.record.proofs.reader.read.Kinds as of_reader
 use Rattle.record.proofs.access.name.Reads as name
@@ -110,7 +109,7 @@ module _ (κs : Lfts 1) (f : Version 1 of_arithmetic.ps of_arithmetic.r κs) whe
 -- ---- the reader and the name lookup, which refuses by the empty stretch
 
 pub reader_refuses_everything : (κs : Lfts 1) (f : Version 1 of_reader.ps of_reader.r κs) (b : Dens κs of_reader.ps) → b.0.now ≡ case_b
-    → ((counts : Counts) → said_by (f b).0 ≡ Ok counts → ⊥) → reader.Post κs b (f b).0 (f b).1 → ⊥
+    → ((counts : Counts) → (f b).0.verdict ≡ Ok counts → ⊥) → reader.Post κs b (f b).0 (f b).1 → ⊥
 reader_refuses_everything κs f b at_b wrong meets = wrong _ (meets.said ∙ ap (λ (l : List ℕ). verdict (read l)) at_b ∙ verdict_b)
 
 pub name_refuses_everything : (κs : Lfts 1) (f : Version 1 of_name.ps of_name.r κs) (b : Dens κs of_name.ps) → b.0.now ≡ case_b → b.1.0.0 ≡ 0

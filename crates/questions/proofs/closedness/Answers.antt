@@ -1,20 +1,22 @@
 -- `closedness` answers as the definitions do, for all bytes.
 use mathlib.Core.Path.{sym, ap, ◌∙◌}
-use Rattle.std.specs.Result.{result_from_control_flow}
+use Rattle.std.specs.Prelude.{Err}
+use Rattle.paper.specs.declared.Refusal.{Refusal}
 use Rattle.paper.specs.Questions.{closedness}
 use Rattle.accepted.specs.Ready.{ReservedFor, part_asked}
-use Rattle.questions.proofs.ByVerdict.{handed_on, answered_refused, ready}
+use Rattle.refusals.specs.Passed.{passed}
+use Rattle.questions.proofs.ByVerdict.{answered_refused, ready}
 use Rattle.questions.proofs.closedness.Goals as goal
 
-pub returns-in_err-read : goal.returns-in_err-read
+pub returns-in_default : goal.returns-in_default
 unfolding closedness
-returns-in_err-read c =
-    handed_on _ c.from_residual.ensures.1
-    ∙ sym (answered_refused _ _ c.read.ensures (c.branch-read.ensures ∙ ap result_from_control_flow c.in_err-read.is) _)
+returns-in_default c =
+    let refusal = c.in_default.is in
+    ap (λ (r : Refusal). Err r) (c.passed.ensures ∙ ap passed refusal) ∙ sym (answered_refused _ _ c.read-reading.ensures refusal _)
 
 pub answer_check-requires : goal.answer_check-requires
 unfolding ReservedFor
-answer_check-requires c = (ready _ _ c.read.ensures (c.branch-read.ensures ∙ ap result_from_control_flow c.in_ok-read.is), tt)
+answer_check-requires c = (ready _ _ c.read-reading.ensures c.in-Ok.is, tt)
 
 pub returns : goal.returns
 unfolding closedness part_asked

@@ -1,22 +1,22 @@
 -- `scoping` answers as the definitions do, for all bytes and every seed.
 use mathlib.Core.Path.{sym, ap, ◌∙◌}
-use Rattle.std.specs.Result.{result_from_control_flow}
+use Rattle.std.specs.Prelude.{Err}
+use Rattle.paper.specs.declared.Refusal.{Refusal}
 use Rattle.paper.specs.Questions.{scoping}
 use Rattle.accepted.specs.Ready.{ReservedFor, part_asked}
-use Rattle.questions.proofs.ByVerdict.{handed_on, answered_refused, ready, reserves}
+use Rattle.refusals.specs.Passed.{passed}
+use Rattle.questions.proofs.ByVerdict.{answered_refused, ready, reserves}
 use Rattle.questions.proofs.scoping.Goals as goal
 
-pub returns-in_err-reading : goal.returns-in_err-reading
+pub returns-in_default : goal.returns-in_default
 unfolding scoping
-returns-in_err-reading c =
-    handed_on _ c.from_residual.ensures.1
-    ∙ sym (answered_refused _ _ c.read.ensures (c.branch-reading.ensures ∙ ap result_from_control_flow c.in_err-reading.is) _)
+returns-in_default c =
+    let refusal = c.in_default.is in
+    ap (λ (r : Refusal). Err r) (c.passed.ensures ∙ ap passed refusal) ∙ sym (answered_refused _ _ c.read-reading.ensures refusal _)
 
 pub answer_check-requires : goal.answer_check-requires
 unfolding ReservedFor
-answer_check-requires c =
-    let accepted = c.branch-reading.ensures ∙ ap result_from_control_flow c.in_ok-reading.is in
-    (ready _ _ c.read.ensures accepted, reserves _ _ c.read.ensures accepted)
+answer_check-requires c = (ready _ _ c.read-reading.ensures c.in-Ok.is, reserves _ _ c.read-reading.ensures c.in-Ok.is)
 
 pub returns : goal.returns
 unfolding scoping part_asked
