@@ -9,5 +9,6 @@ pub mod HeadLaws
 pub mod EndLaws
 pub mod NameLaws
 pub mod NodeLaws
+pub mod ViewLaws
 pub mod Reached
 pub mod ReadLaws

@@ -79,6 +79,21 @@ away_among [] js k m a = tt
 away_among (i ∷ is) js k m a =
     ((λ e. away_one js i k (and_left (among? js i) _ m) a e), away_among is js k (and_right (among? js i) _ m) a)
 
+pub away_both : (is js : List ℕ) (k : ℕ) → Away is k → Away js k → Away (is ++ js) k
+unfolding Away
+away_both [] js k a b = b
+away_both (i ∷ is) js k a b = (a.0, away_both is js k a.1 b)
+
+-- what holds of each of some kinds, and of every other number, holds
+pub of_each : (P : ℕ → Type 0) (is : List ℕ) (k : ℕ) → All P is → (Away is k → P k) → P k
+unfolding Away
+of_each P [] k a f = f tt
+of_each P (i ∷ is) k a f = go (λ g. of_each P is k a.1 g) (ℕ_discrete k i)
+  where
+    go : ((Away is k → P k) → P k) → Dec (k ≡ i) → P k
+    go later (yes e) = subst P (sym e) a.0
+    go later (no e) = later (λ w. f (e, w))
+
 pub no_kind : (rs : List Kind) (k : ℕ) → Away (map (λ (r : Kind). r.kind) rs) k → node_kind rs k ≡ unknown
 unfolding Away node_kind
 no_kind [] k a = refl
@@ -106,3 +121,10 @@ says_end k ps a = said_end k _ a (eqb k 0x30) refl
 -- a match that names every kind but 0x30
 pub last_arm : (k : ℕ) (ps : List ℕ) → Rest ((conditions ++ terms) ++ cells) k (Unit {0}) → ListEnd ≡ node_told k ps
 last_arm k ps m = sym (says_end k ps (rest_away ((conditions ++ terms) ++ cells) k (Unit {0}) m).1)
+
+-- what holds of each kind that a match does not name, and of `ListEnd`, holds of every number that it does not name
+pub by_number : (Q : Node → Type 0) (named : List ℕ) (k : ℕ) (ps : List ℕ) → All (λ n. Away named n → Q (node_told n ps)) ((conditions ++ terms) ++ cells)
+    → Q ListEnd → Away named k → Q (node_told k ps)
+by_number Q named k ps each last away =
+    of_each (λ n. Away named n → Q (node_told n ps)) ((conditions ++ terms) ++ cells) k each
+    (λ a w. subst Q (sym (says_end k ps a)) last) away
