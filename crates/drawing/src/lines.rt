@@ -4,7 +4,8 @@ use paper::NodeNo;
 use std::io::Write;
 use std::{fmt, io};
 use untied::behind;
-use wording::rules::wrong;
+use wording::phrases::Phrase;
+use wording::rules::words_of;
 use writes::unpack;
 
 // Two columns for each step down.
@@ -26,8 +27,9 @@ fn mark<W: Write>(out: &mut W, record: Record<'_>, entry: u32, i: NodeNo) -> io:
     if f.node != i {
         return Ok(());
     }
-    let whom = f.name;
-    write!(out, "  ! {}: {}", f.rule, wrong(f.rule, record.about(whom)))
+    let line = words_of(f.rule).wrong;
+    let name = record.about(f.name);
+    write!(out, "  ! {}: {}", f.rule, Phrase { line, name })
 }
 
 // The entries of the node, at the end of its line, and why it ties nothing if it is an equality that does.

@@ -9,7 +9,9 @@ use std::io;
 use std::io::Write;
 use untied::below;
 use wording::counts::Counted;
-use wording::{refusals, rules};
+use wording::phrases::Phrase;
+use wording::refusals;
+use wording::rules::words_of;
 use writes::unpack;
 
 fn numbers<W: Write>(out: &mut W, entries: &[u32]) -> io::Result<()> {
@@ -22,15 +24,14 @@ fn numbers<W: Write>(out: &mut W, entries: &[u32]) -> io::Result<()> {
 // An entry: a line for where, what and why, one on how to mend it, and what there is to say of equalities.
 fn block<W: Write>(out: &mut W, record: Record<'_>, entry: u32) -> io::Result<()> {
     let f = unpack(entry);
-    let whom = f.name;
-    let name = record.about(whom);
+    let name = record.about(f.name);
     let rule = f.rule;
     let node = record.described(f.node);
     write!(out, "{rule} at node {} ({node}): ", f.node.0)?;
-    let wrong = rules::wrong(rule, name);
-    let why = rules::why(rule, name);
-    writeln!(out, "{wrong}: {why}.")?;
-    writeln!(out, "   Mend: {}", rules::mend(rule, name))?;
+    let words = words_of(rule);
+    let say = |line| Phrase { line, name };
+    writeln!(out, "{}: {}.", say(words.wrong), say(words.why))?;
+    writeln!(out, "   Mend: {}", say(words.mend))?;
     below(out, record, f)
 }
 

@@ -43,6 +43,7 @@ impl<'a> Record<'a> {
         Bound { record: self, slot }
     }
 
+    // As `described` reads a node, for other words: as one function it would want the words as a type parameter, which is no plainer.
     fn side(self, i: NodeNo) -> Side<'a> {
         let node = self.node(i);
         Side { record: self, node }

@@ -27,7 +27,7 @@ fn deep<W: Write>(to: &mut W, title: &str, nodes: u16) -> io::Result<()>
     say::reading(to, title, record.as_slice())
 }
 
-// A balanced tree of 256 Calls and 255 Ands, which is 9 deep, under Nots.
+// A balanced tree of 256 Calls and 255 Ands, which is 9 deep, under Nots. It is built as `deep` is, but for what stands below the Nots.
 fn wide<W: Write>(to: &mut W, title: &str, nodes: u16) -> io::Result<()>
     requires { 1 ≤ nodes }
 {

@@ -20,7 +20,7 @@ fn reason_at(record: Record<'_>, i: NodeNo) -> Option<Reason> {
     }
 }
 
-// At the end of the node's line on the tree.
+// At the end of the node's line on the tree. This and the next differ in their words alone, which as parameters would be no plainer.
 pub fn behind<W: Write>(out: &mut W, record: Record<'_>, i: NodeNo) -> io::Result<()> {
     match reason_at(record, i) {
         Some(why) => write!(out, "  ~ ties nothing: {}", untied(why)),

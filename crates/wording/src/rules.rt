@@ -1,14 +1,12 @@
 // What each rule of the list says to the person who writes the condition. To tie a name is what document 01 calls to restrict it: an event, a tp or an
 // equality gives it a value.
-use crate::phrases::Phrase;
-
 // A line each for what is wrong, in a few words, since a line of the tree has to hold them; why that matters, as the end of the sentence; and how to mend it.
 #[derive(Clone, Copy)]
-struct Words {
+pub struct Words {
     rule: u8,
-    wrong: &'static str,
-    why: &'static str,
-    mend: &'static str,
+    pub wrong: &'static str,
+    pub why: &'static str,
+    pub mend: &'static str,
 }
 
 const TABLE: [Words; 12] = [
@@ -93,24 +91,10 @@ const NO_WORDS: Words = Words {
     mend: "",
 };
 
-fn words_of(rule: u8) -> Words {
+// No words for a number that is no rule's.
+pub fn words_of(rule: u8) -> Words {
     TABLE
         .into_iter()
         .find(|words| words.rule == rule)
         .unwrap_or(NO_WORDS)
-}
-
-pub fn wrong(rule: u8, name: &str) -> Phrase<'_> {
-    let line = words_of(rule).wrong;
-    Phrase { line, name }
-}
-
-pub fn why(rule: u8, name: &str) -> Phrase<'_> {
-    let line = words_of(rule).why;
-    Phrase { line, name }
-}
-
-pub fn mend(rule: u8, name: &str) -> Phrase<'_> {
-    let line = words_of(rule).mend;
-    Phrase { line, name }
 }
