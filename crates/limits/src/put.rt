@@ -9,18 +9,16 @@ const MOST: usize = 8192;
 pub struct Written {
     bytes: [u8; 8192],
     len: usize,
-    ghost within: { len ≤ 8192 },
+    ghost within: { (1 ≤ len) × (len ≤ 8192) },
 }
 
 impl Written {
     // The format record alone.
     pub fn new() -> Written {
-        let mut record = Written {
-            bytes: [0; 8192],
-            len: 0,
-        };
-        record.extend(b"\x01\x01");
-        record
+        let mut bytes = [0; 8192];
+        bytes[0] = 0x01;
+        bytes[1] = 0x01;
+        Written { bytes, len: 2 }
     }
 
     pub fn as_slice(&self) -> &[u8] {
