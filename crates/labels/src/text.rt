@@ -1,4 +1,8 @@
 // A node on a line: its kind by document 01's word, with the names and the numbers that stand in it.
+ghost use Rattle.std.specs.Prelude.{◌≡◌, get_or};
+ghost use Rattle.paper.specs.declared.Node.TheVariants.{ListEnd};
+ghost use Rattle.record.specs.Stored.{contents};
+
 use crate::operators::{comparing, computing};
 use paper::{NameNo, Node, NodeNo, Slot};
 use record::access;
@@ -11,7 +15,10 @@ pub struct Record<'a> {
 }
 
 impl<'a> Record<'a> {
-    pub fn node(self, i: NodeNo) -> Node {
+    // A list end for an unknown number or a record that is turned away, as `lookup` has it.
+    pub fn node(self, i: NodeNo) -> Node
+        ensures { result ≡ get_or (contents self.entry.bytes.now).nodes i.0 ListEnd }
+    {
         lookup::node(self.bytes, i)
     }
 
