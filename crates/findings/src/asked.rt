@@ -1,4 +1,6 @@
 // What the program's arguments ask for.
+ghost use Rattle.std.specs.Prelude.{◌≤◌, length};
+
 use std::env::{Env, FillError};
 use std::fmt;
 
@@ -63,7 +65,9 @@ fn word_of(argument: &[u8]) -> Word {
 }
 
 // An argument, put into the buffer: all its bytes, or as many as the buffer holds.
-pub fn argument<'a>(rt: &impl Env, i: usize, buffer: &'a mut [u8; 4096]) -> &'a [u8] {
+pub fn argument<'a>(rt: &impl Env, i: usize, buffer: &'a mut [u8; 4096]) -> &'a [u8]
+    ensures { length result.now ≤ 4096 }
+{
     match rt.arg(i, buffer) {
         Ok(n) => &buffer[..n],
         Err(FillError::NotPresent) => &[],
