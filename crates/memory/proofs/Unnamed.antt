@@ -118,10 +118,6 @@ pub says_end : (k : ℕ) (ps : List ℕ) → Away ((conditions ++ terms) ++ cell
 unfolding node_told
 says_end k ps a = said_end k _ a (eqb k 0x30) refl
 
--- a match that names every kind but 0x30
-pub last_arm : (k : ℕ) (ps : List ℕ) → Rest ((conditions ++ terms) ++ cells) k (Unit {0}) → ListEnd ≡ node_told k ps
-last_arm k ps m = sym (says_end k ps (rest_away ((conditions ++ terms) ++ cells) k (Unit {0}) m).1)
-
 -- what holds of each kind that a match does not name, and of `ListEnd`, holds of every number that it does not name
 pub by_number : (Q : Node → Type 0) (named : List ℕ) (k : ℕ) (ps : List ℕ) → All (λ n. Away named n → Q (node_told n ps)) ((conditions ++ terms) ++ cells)
     → Q ListEnd → Away named k → Q (node_told k ps)

@@ -1,8 +1,8 @@
 -- Each arm of `node_of` takes the fields of its kind from its word, and the last has the kinds that carry nothing.
 use mathlib.Core.List.{[], ◌∷◌}
 use Rattle.memory.specs.Columns.{node_told}
-use Rattle.memory.proofs.NodeLaws.{arms}
-use Rattle.memory.proofs.Unnamed.{Rest, last_arm}
+use Rattle.memory.proofs.NodeLaws.{arms, last_arm}
+use Rattle.memory.proofs.Unnamed.{Rest}
 use Rattle.nodes.proofs.node_of.Goals as goal
 
 pub returns-in-16 : goal.returns-in-16
