@@ -65,12 +65,15 @@ fn check_conjunct_demands(nodes: &NotedNodes, i: NodeNo, tied: Names, entries: &
 {
     match owing_at(nodes.columns, i) {
         Owing::Comparison(op, l, r) => {
-            let left = nodes.collect_term_var(l);
-            let right = nodes.collect_term_var(r);
             if op == 0 {
                 let side = eq_restricted_var(nodes.columns, l, r);
+                // After the equality is asked, and so once more below: names that are live over that call take stack at each level of the walk.
+                let left = nodes.collect_term_var(l);
+                let right = nodes.collect_term_var(r);
                 check_equality_demands(i, side, left, right, tied, entries);
             } else {
+                let left = nodes.collect_term_var(l);
+                let right = nodes.collect_term_var(r);
                 reject_unmet_sides(i, left, right, tied, entries);
             }
         }

@@ -19,7 +19,7 @@ returns-then-op-eq0 c =
 
 pub returns-else-op-eq0 : goal.returns-else-op-eq0
 returns-else-op-eq0 c =
-    added_is (owed_other _ (told (goal.at.returns-else-op-eq0 c).After-owing_at c.in-Comparison.is) c.collect_term_var-left.ensures c.collect_term_var-right.ensures c.if-op-eq0.false) c.reject_unmet_sides.ensures
+    added_is (owed_other _ (told (goal.at.returns-else-op-eq0 c).After-owing_at c.in-Comparison.is) c.collect_term_var-left-else-op-eq0.ensures c.collect_term_var-right-else-op-eq0.ensures c.if-op-eq0.false) c.reject_unmet_sides.ensures
 
 pub returns-in-Not : goal.returns-in-Not
 returns-in-Not c =
@@ -48,8 +48,14 @@ collect_term_var-right-requires c = term_row (told (goal.at.collect_term_var-rig
 pub check_equality_demands-requires : goal.check_equality_demands-requires
 check_equality_demands-requires c = room_is (owed_equality _ (told (goal.at.check_equality_demands-requires c).After-owing_at c.in-Comparison.is) c.collect_term_var-left.ensures c.collect_term_var-right.ensures c.if-op-eq0.true c.eq_restricted_var-side.ensures) c.requires.room
 
+pub collect_term_var-left-requires-else-op-eq0 : goal.collect_term_var-left-requires-else-op-eq0
+collect_term_var-left-requires-else-op-eq0 c = term_row (told (goal.at.collect_term_var-left-requires-else-op-eq0 c).After-owing_at c.in-Comparison.is).children.0
+
+pub collect_term_var-right-requires-else-op-eq0 : goal.collect_term_var-right-requires-else-op-eq0
+collect_term_var-right-requires-else-op-eq0 c = term_row (told (goal.at.collect_term_var-right-requires-else-op-eq0 c).After-owing_at c.in-Comparison.is).children.1.0
+
 pub reject_unmet_sides-requires : goal.reject_unmet_sides-requires
-reject_unmet_sides-requires c = room_is (owed_other _ (told (goal.at.reject_unmet_sides-requires c).After-owing_at c.in-Comparison.is) c.collect_term_var-left.ensures c.collect_term_var-right.ensures c.if-op-eq0.false) c.requires.room
+reject_unmet_sides-requires c = room_is (owed_other _ (told (goal.at.reject_unmet_sides-requires c).After-owing_at c.in-Comparison.is) c.collect_term_var-left-else-op-eq0.ensures c.collect_term_var-right-else-op-eq0.ensures c.if-op-eq0.false) c.requires.room
 
 pub collect_free-needs-requires : goal.collect_free-needs-requires
 collect_free-needs-requires c = body_row (told (goal.at.collect_free-needs-requires c).After-owing_at c.in-Not.is).children.0
